@@ -1,0 +1,1 @@
+// The bench sheet. Its starred cases are one computed table in proofs/.

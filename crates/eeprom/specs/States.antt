@@ -1,0 +1,39 @@
+-- The four bytes of a chip's state, the pointer and then the busy ticks left, each low byte first; a chip before the first tick (paper 01, "What is on
+-- the board"). Assumes nothing.
+use Prim.Native.Nat.{ℕ, _+_, _*_, _/_, _%_}
+use mathlib.Core.Bool.{Bool, false, _&&_}
+use mathlib.Core.List.{List, [], _∷_}
+use lib.Dec.{leb, ltb}
+use lib.ListN.{getD}
+use Rattle.eeprom.specs.Pages.{geometryOf}
+use Rattle.eeprom.specs.Keeping.{Kept, emptied, blankLatch}
+use Rattle.eeprom.specs.Stages.{Core, Body}
+use Rattle.eeprom.specs.declared.Model.{Model}
+use Rattle.eeprom.specs.declared.Stage.the-variants.{Deaf}
+
+-- the busy ticks that may be asked for or be left
+unfoldable pub mostBusy : ℕ
+mostBusy = 20000
+
+-- the number in two bytes
+abbrev pub wordAt : List ℕ → ℕ → ℕ
+wordAt st p = getD st p 0 + 256 * getD st (p + 1) 0
+
+abbrev pub wordBytes : ℕ → List ℕ → List ℕ
+wordBytes n rest = n % 256 ∷ n / 256 % 256 ∷ rest
+
+-- a chip that is not addressed
+abbrev pub keptAt : (name : ℕ) → Model → (pointer : ℕ) → List ℕ → Kept
+keptAt name model p m =
+    record { store = record { name = name; model = model; pointer = p; want = 0; high = 0; latched = false; latch = blankLatch }; memory = m }
+
+abbrev pub bodyFrom : (strap : ℕ) → Model → List ℕ → (states : List ℕ) → (place : ℕ) → Body
+bodyFrom s model m st p =
+    record { core = record { stage = Deaf; kept = keptAt (80 + s) model (wordAt st (4 * p)) m }; busy = wordAt st (4 * p + 2) }
+
+abbrev pub stateBytes : Body → List ℕ → List ℕ
+stateBytes b rest = wordBytes (b .core .kept .store .pointer) (wordBytes (b .busy) rest)
+
+-- the pointer inside the chip, the busy time at most 20,000
+abbrev pub stateRight : Body → Bool
+stateRight b = ltb (b .core .kept .store .pointer) (geometryOf (b .core .kept .store .model) .size) && leb (b .busy) mostBusy

@@ -1,0 +1,6 @@
+pub mod Kinds
+pub mod Form
+pub mod Bytes
+pub mod Asking
+pub mod Results
+pub mod Marks
