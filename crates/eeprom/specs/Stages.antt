@@ -1,17 +1,23 @@
 -- What the chip makes of an event, what it drives on SDA, and its busy time (paper 01, "What the chip does"). Assumes nothing.
 use Prim.Native.Nat.{ℕ, zero, suc, _-_, _/_, _%_}
 use mathlib.Core.Bool.{Bool, true, false, _&&_, cond}
+use mathlib.Core.List.{List}
 use lib.Dec.{eqb}
 use Rattle.lines.specs.Levels.{bitAt, shifted}
 use Rattle.lines.specs.declared.Event.{Event}
 use Rattle.lines.specs.declared.Event.the-variants.{Quiet, Started, Stopped, Bit}
 use Rattle.eeprom.specs.Keeping.{Kept, takes, byteNow, steps, starts, stops}
+use Rattle.eeprom.specs.declared.Chip.{Chip}
 use Rattle.eeprom.specs.declared.Stage.{Stage}
 use Rattle.eeprom.specs.declared.Stage.the-variants.{Deaf, Naming, Named, Taking, Taken, Sending, Asking}
 
 pub record Core : Type 0 where
   pub stage : Stage
   pub kept : Kept
+
+-- the code's chip with its lent memory
+abbrev pub coreOf : Chip → List ℕ → Core
+coreOf c m = record { stage = c .stage; kept = record { store = c .store; memory = m } }
 
 abbrev pub at : Stage → Core → Core
 at s c = record { stage = s; kept = c .kept }

@@ -36,11 +36,10 @@ pub enum Stage {
     Asking,
 }
 
-// A chip in a run, with the tick from which it is no longer busy.
+// A chip but for its memory, which is lent, and its busy time.
 pub struct Chip {
     pub stage: Stage,
     pub store: Store,
-    pub free: usize,
 }
 
 pub struct Answer {

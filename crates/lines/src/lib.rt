@@ -1,4 +1,12 @@
-// The two wires: their levels in a tick, and what two neighbouring ticks of them say.
+// The two wires: their levels in a tick, the byte that stands for them, and what two neighbouring ticks of them say.
+ghost use mathlib.Core.Path.{_≡_};
+ghost use lib.ListN.{getD, set};
+ghost use Rattle.lines.specs.Levels.{released, bitAt, shifted, byteOf, linesOf};
+ghost use Rattle.lines.specs.Events.{delivered, note, eventOf, eyeAfter, opened, isQuiet};
+ghost use Rattle.lines.specs.Records.{allWithin};
+
+// The most ticks for which SCL may be held low in a symbol.
+pub const MOST_HELD: u8 = 16;
 
 // The levels of the clock and of the data line in one tick.
 pub struct Lines {
@@ -24,4 +32,182 @@ pub enum Event {
     Started,
     Stopped,
     Bit(bool),
+}
+
+impl Lines {
+    pub fn released() -> Lines
+        ensures { λ r. ⌜ r ≡ released ⌝ }
+    {
+        Lines {
+            scl: true,
+            sda: true,
+        }
+    }
+
+    // SCL in bit 0, SDA in bit 1.
+    pub fn byte(self) -> u8
+        ensures { λ r. ⌜ r ≡ byteOf self ⌝ }
+    {
+        if self.scl {
+            if self.sda { 3 } else { 1 }
+        } else {
+            if self.sda { 2 } else { 0 }
+        }
+    }
+
+    pub fn from_byte(x: u8) -> Lines
+        ensures { λ r. ⌜ r ≡ linesOf x ⌝ }
+    {
+        Lines {
+            scl: bit_at(0, x),
+            sda: bit_at(1, x),
+        }
+    }
+}
+
+// Bit i of a byte.
+pub fn bit_at(i: u8, x: u8) -> bool
+    ensures { λ r. ⌜ r ≡ bitAt i x ⌝ }
+{
+    if i < 8 { (x >> i) % 2 == 1 } else { false }
+}
+
+// A byte's register with one bit more.
+pub fn shifted(x: u8, bit: bool) -> u8
+    ensures { λ r. ⌜ r ≡ shifted x bit ⌝ }
+{
+    if bit { x % 128 * 2 + 1 } else { x % 128 * 2 }
+}
+
+impl Noted {
+    fn delivered(self) -> Event
+        ensures { λ r. ⌜ r ≡ delivered self ⌝ }
+    {
+        match self {
+            Noted::Nothing => Event::Quiet,
+            Noted::Level(b) => Event::Bit(b),
+        }
+    }
+}
+
+impl Event {
+    pub fn is_quiet(self) -> bool
+        ensures { λ r. ⌜ r ≡ isQuiet self ⌝ }
+    {
+        match self {
+            Event::Quiet => true,
+            Event::Started => false,
+            Event::Stopped => false,
+            Event::Bit(_) => false,
+        }
+    }
+}
+
+// What is noted after a tick.
+fn noted_after(past: Lines, seen: Lines, noted: Noted) -> Noted
+    ensures { λ r. ⌜ r ≡ note (past .scl) (seen .scl) (past .sda) (seen .sda) noted ⌝ }
+{
+    if past.scl {
+        if seen.scl {
+            if past.sda {
+                if seen.sda { noted } else { Noted::Nothing }
+            } else {
+                if seen.sda { Noted::Nothing } else { noted }
+            }
+        } else {
+            Noted::Nothing
+        }
+    } else {
+        if seen.scl {
+            Noted::Level(seen.sda)
+        } else {
+            noted
+        }
+    }
+}
+
+impl Eye {
+    // Before the first tick.
+    pub fn opened() -> Eye
+        ensures { λ r. ⌜ r ≡ opened ⌝ }
+    {
+        Eye {
+            past: Lines {
+                scl: true,
+                sda: true,
+            },
+            noted: Noted::Nothing,
+        }
+    }
+
+    // What is heard when these lines are seen.
+    pub fn event(self, seen: Lines) -> Event
+        ensures { λ r. ⌜ r ≡ eventOf self seen ⌝ }
+    {
+        let past = self.past;
+        let noted = self.noted;
+        if past.scl {
+            if seen.scl {
+                if past.sda {
+                    if seen.sda {
+                        Event::Quiet
+                    } else {
+                        Event::Started
+                    }
+                } else {
+                    if seen.sda {
+                        Event::Stopped
+                    } else {
+                        Event::Quiet
+                    }
+                }
+            } else {
+                noted.delivered()
+            }
+        } else {
+            if seen.scl { Event::Quiet } else { Event::Quiet }
+        }
+    }
+
+    pub fn after(self, seen: Lines) -> Eye
+        ensures { λ r. ⌜ r ≡ eyeAfter self seen ⌝ }
+    {
+        let past = self.past;
+        let noted = self.noted;
+        let next = noted_after(past, seen, noted);
+        Eye {
+            past: seen,
+            noted: next,
+        }
+    }
+}
+
+// The byte at a place, and 0 past the end.
+pub fn byte_at(s: &[u8], at: usize) -> u8
+    ensures { λ r. ⌜ r ≡ getD (now (s .entry)) at 0 ⌝ }
+{
+    if at < s.len() { s[at] } else { 0 }
+}
+
+// A store that does nothing past the end.
+pub fn put_at(s: &mut [u8], at: usize, x: u8)
+    ensures { λ _. ⌜ now (s .exit) ≡ set (now (s .entry)) at x ⌝ }
+{
+    if at < s.len() {
+        s[at] = x;
+    }
+}
+
+// No byte is over the most.
+pub fn all_within(most: u8, s: &[u8]) -> bool
+    ensures { λ r. ⌜ r ≡ allWithin most (now (s .entry)) ⌝ }
+{
+    let mut i = 0;
+    while i < s.len() {
+        if most < s[i] {
+            return false;
+        }
+        i += 1;
+    }
+    true
 }
