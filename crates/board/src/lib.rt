@@ -3,6 +3,14 @@ ghost use mathlib.Core.Path.{_≡_};
 ghost use Prim.Native.Nat.{_≤_};
 ghost use Rattle.board.specs.Marks.{chipCount, placeOf};
 
+use eeprom::Chip;
+
+// A chip in a run, with the tick from which it is no longer busy.
+pub struct Seat {
+    pub chip: Chip,
+    pub free: usize,
+}
+
 // What a run says: 0 and its ticks, or the number of the refusal.
 pub struct Answer {
     pub number: u8,
