@@ -1,3 +1,4 @@
 pub mod Places
 pub mod Done
 pub mod Seated
+pub mod Heard

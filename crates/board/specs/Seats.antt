@@ -1,9 +1,13 @@
 -- Inside: the code's chips, side by side with their parts of the lent memory, as the rules' chips at a tick. No entry cites it. Assumes nothing.
 use Prim.Native.Nat.{ℕ, zero, suc, _+_, _-_}
+use mathlib.Core.Bool.{Bool, true, _&&_, cond}
 use mathlib.Core.List.{List, [], _∷_}
+use lib.Dec.{leb}
 use lib.ListN.{take, drop}
+use Rattle.lines.specs.declared.Event.{Event}
+use Rattle.lines.specs.declared.Event.the-variants.{Quiet, Started, Stopped, Bit}
 use Rattle.eeprom.specs.Pages.{geometryOf}
-use Rattle.eeprom.specs.Stages.{Body, coreOf}
+use Rattle.eeprom.specs.Stages.{Core, Body, coreOf, due, hears, sdaOf}
 use Rattle.board.specs.declared.Seat.{Seat}
 
 pub record Seated : Type 0 where
@@ -28,3 +32,29 @@ offset (suc i) (x ∷ xs) = sizeOf x + offset i xs
 -- busy until a tick is busy ticks left
 abbrev pub bodyOf : (tick : ℕ) → Seated → Body
 bodyOf t x = record { core = coreOf (x .seat .chip) (x .memory); busy = x .seat .free - t }
+
+-- what an event of tick t makes of a chip and its memory: an answer is decided by whether the chip is free at t, and a STOP that stores makes it busy for
+-- the asked time from the tick after on
+abbrev pub freeAfter : (asked tick : ℕ) → Event → Core → ℕ → ℕ
+freeAfter asked t Quiet c f = f
+freeAfter asked t Started c f = f
+freeAfter asked t Stopped c f = cond (due c) (t + 1 + asked) f
+freeAfter asked t (Bit b) c f = f
+
+abbrev pub coreAt : (tick : ℕ) → Event → Seated → Core
+coreAt t e x = hears (leb (x .seat .free) t) e (coreOf (x .seat .chip) (x .memory))
+
+abbrev pub heard : (asked tick : ℕ) → Event → Seated → Seated
+heard asked t e x =
+    record {
+      seat = record {
+        chip = record { stage = coreAt t e x .stage; store = coreAt t e x .kept .store };
+        free = freeAfter asked t e (coreOf (x .seat .chip) (x .memory)) (x .seat .free);
+      };
+      memory = coreAt t e x .kept .memory;
+    }
+
+-- no chip drives SDA 0
+unfoldable pub allUp : List Seated → Bool
+allUp [] = true
+allUp (x ∷ xs) = sdaOf (x .seat .chip .stage) && allUp xs
