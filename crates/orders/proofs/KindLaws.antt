@@ -1,0 +1,56 @@
+-- What the functions on a kind byte and a length byte answer, a law for each answer: the only proofs that open the definitions of Kinds.
+-- Assumes nothing.
+use mathlib.Core.Path.{_≡_, refl, sym, ap, _∙_}
+use mathlib.Core.Bool.{Bool, true, false, cond}
+use Prim.Native.Nat.{ℕ, zero, suc, _-_, _<_, _≤_}
+use native.Mathlib.Omega.{arith}
+use lib.Dec.{leb, leb·zero}
+use borrow.Author.Tests.{lt-ltb, le-ltb, le-leb, lt-leb, eq-eqb, ne-eqb, leb-true}
+use Rattle.orders.specs.Kinds.{isWrite, mostLength, mostMessages, countRight, lengthRight, dataOf, askedOf, quotaOf}
+use Rattle.orders.specs.declared.Quota.{Quota}
+
+pub ruleset tests = (lt-ltb, le-ltb, le-leb, lt-leb, eq-eqb, ne-eqb)
+
+pub some-messages : (n : ℕ) → 1 ≤ n → leb n 8 ≡ countRight n
+unfolding countRight mostMessages
+some-messages n h = simp tests
+
+pub no-messages : (n : ℕ) → n < 1 → false ≡ countRight n
+unfolding countRight mostMessages
+no-messages n h = simp tests
+
+pub quota-left : (kind n m : ℕ) → m ≡ n - 1 → record { more = m } ≡ quotaOf kind n
+unfolding quotaOf
+quota-left kind n m e = rw e
+
+module _ (kind n : ℕ) (w : Bool) (e : w ≡ isWrite kind) where
+  is : (b : Bool) → w ≡ b → isWrite kind ≡ b
+  is b t = sym e ∙ t
+
+  pub data-written : w ≡ true → n ≡ dataOf kind n
+  unfolding dataOf
+  data-written t = rw (is true t)
+
+  pub no-data : w ≡ false → 0 ≡ dataOf kind n
+  unfolding dataOf
+  no-data t = rw (is false t)
+
+  pub none-asked : w ≡ true → 0 ≡ askedOf kind n
+  unfolding askedOf
+  none-asked t = rw (is true t)
+
+  pub all-asked : w ≡ false → n ≡ askedOf kind n
+  unfolding askedOf
+  all-asked t = rw (is false t)
+
+  pub write-length : w ≡ true → leb n 64 ≡ lengthRight kind n
+  unfolding lengthRight mostLength
+  write-length t = rw (is true t, leb·zero n)
+
+  pub read-length : w ≡ false → 1 ≤ n → leb n 64 ≡ lengthRight kind n
+  unfolding lengthRight mostLength
+  read-length t h = rw (is false t, le-leb 1 n h)
+
+  pub empty-read : w ≡ false → n < 1 → false ≡ lengthRight kind n
+  unfolding lengthRight mostLength
+  empty-read t h = rw (is false t, lt-leb 1 n h)

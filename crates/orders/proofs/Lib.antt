@@ -1,0 +1,2 @@
+-- What the proofs of several functions use, and what the crates above cite.
+pub mod KindLaws
