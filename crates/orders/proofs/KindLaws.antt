@@ -1,12 +1,12 @@
 -- What the functions on a kind byte and a length byte answer, a law for each answer: the only proofs that open the definitions of Kinds.
 -- Assumes nothing.
 use mathlib.Core.Path.{_≡_, refl, sym, ap, _∙_}
-use mathlib.Core.Bool.{Bool, true, false, cond}
+use mathlib.Core.Bool.{Bool, true, false, cond, _&&_}
 use Prim.Native.Nat.{ℕ, zero, suc, _-_, _<_, _≤_}
 use native.Mathlib.Omega.{arith}
 use lib.Dec.{leb, leb·zero}
 use borrow.Author.Tests.{lt-ltb, le-ltb, le-leb, lt-leb, eq-eqb, ne-eqb, leb-true}
-use Rattle.orders.specs.Kinds.{isWrite, mostLength, mostMessages, countRight, lengthRight, dataOf, askedOf, quotaOf}
+use Rattle.orders.specs.Kinds.{isWrite, mostBytes, mostLength, mostMessages, countRight, lengthRight, dataOf, askedOf, quotaOf}
 use Rattle.orders.specs.declared.Quota.{Quota}
 
 pub ruleset tests = (lt-ltb, le-ltb, le-leb, lt-leb, eq-eqb, ne-eqb)
@@ -54,3 +54,25 @@ module _ (kind n : ℕ) (w : Bool) (e : w ≡ isWrite kind) where
   pub empty-read : w ≡ false → n < 1 → false ≡ lengthRight kind n
   unfolding lengthRight mostLength
   empty-read t h = rw (is false t, lt-leb 1 n h)
+
+-- ---- what a byte that is right says of numbers
+
+pub most-bytes : mostBytes ≤ 65536
+unfolding mostBytes
+most-bytes = omega arith
+
+both : (a b : Bool) → a && b ≡ true → b ≡ true
+both true b e = e
+both false b e = let z : _≡_ {A = ℕ} 0 1 = cc in absurd (omega arith)
+
+pub short-length : (kind n : ℕ) → lengthRight kind n ≡ true → n ≤ 255
+unfolding lengthRight mostLength
+short-length kind n e = let h : n ≤ 64 = leb-true _ _ (both (leb (cond (isWrite kind) 0 1) n) (leb n 64) e) in omega arith
+
+pub few-asked : (kind n : ℕ) → lengthRight kind n ≡ true → askedOf kind n ≤ 255
+unfolding askedOf
+few-asked kind n e = cases (isWrite kind) (short-length kind n e)
+  where
+    cases : (w : Bool) → n ≤ 255 → cond w 0 n ≤ 255
+    cases true h = omega arith
+    cases false h = omega arith
