@@ -61,13 +61,17 @@ pub most-bytes : mostBytes ≤ 65536
 unfolding mostBytes
 most-bytes = omega arith
 
-both : (a b : Bool) → a && b ≡ true → b ≡ true
-both true b e = e
+both : (a b : Bool) → a && b ≡ true → (a ≡ true) × (b ≡ true)
+both true b e = (refl, e)
 both false b e = let z : _≡_ {A = ℕ} 0 1 = cc in absurd (omega arith)
+
+pub some-message : (n : ℕ) → countRight n ≡ true → 1 ≤ n
+unfolding countRight
+some-message n e = leb-true _ _ (both (leb 1 n) (leb n mostMessages) e .0)
 
 pub short-length : (kind n : ℕ) → lengthRight kind n ≡ true → n ≤ 255
 unfolding lengthRight mostLength
-short-length kind n e = let h : n ≤ 64 = leb-true _ _ (both (leb (cond (isWrite kind) 0 1) n) (leb n 64) e) in omega arith
+short-length kind n e = let h : n ≤ 64 = leb-true _ _ (both (leb (cond (isWrite kind) 0 1) n) (leb n 64) e .1) in omega arith
 
 pub few-asked : (kind n : ℕ) → lengthRight kind n ≡ true → askedOf kind n ≤ 255
 unfolding askedOf

@@ -5,3 +5,5 @@ pub mod WholeMessage
 pub mod Cycle
 pub mod PlaceLaws
 pub mod Stands
+pub mod Round
+pub mod Starts
