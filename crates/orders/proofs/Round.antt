@@ -13,7 +13,7 @@ use borrow.Author.Tests.{ltb-false}
 use lib.Seq.{drop-cons, length-take-le, getD-drop, drop-drop, take-append-seam, drop-append-seam}
 use Rattle.orders.proofs.KindLaws.{tests, some-message}
 use Rattle.orders.proofs.WholeMessage.{IsMessage, message-inv}
-use Rattle.orders.proofs.Stands.{parsed-stands, stands-parsed}
+use Rattle.orders.proofs.Stands.{stands-parsed, holds}
 use Rattle.orders.specs.Kinds.{mostBytes, dataOf}
 use Rattle.orders.specs.Form.{Message, Transaction, whole, Parsed, right, wrong, messageAt, waitAt, parsed, transactionsOf}
 use Rattle.orders.specs.Places.{Stands, ended, begins, follows}
@@ -184,30 +184,14 @@ stands-sound {s} byte (begins {p} {q} {m} {ms} {ts} l c k i st) =
 
 -- ---- what an accepted list is
 
-pub record Holds (s : List ℕ) (r : ℕ) : Type 0 where
-  pub short : length s ≤ mostBytes
-  pub area : r ≡ areaOf (transactionsOf s)
-  -- each message at its place
-  pub stands : Stands s 0 [] (transactionsOf s)
-
-pub holds : (s : List ℕ) (r : ℕ) → checkOf s ≡ Accepted r → Holds s r
-unfolding checkOf transactionsOf
-holds s r e = cases (ltb mostBytes (length s)) refl (parsed s) refl e
-  where
-    cases : (b : Bool) → ltb mostBytes (length s) ≡ b → (x : Parsed) → parsed s ≡ x → cond b TooLong (checkedAs x) ≡ Accepted r → Holds s r
-    cases true be x xe e = let z : _≡_ {A = ℕ} 0 1 = cc in absurd (omega arith)
-    cases false be (wrong k) xe e = let z : _≡_ {A = ℕ} 0 1 = cc in absurd (omega arith)
-    cases false be (right (m ∷ ms) ts) xe e = let n = parsed-stands s (m ∷ ms) ts xe .count in absurd (omega arith)
-    cases false be (right [] ts) xe e = record { short = ltb-false _ _ be; area = rw xe (cc); stands = rw xe (parsed-stands s [] ts xe .stands) }
-
-pub record Accepts (s : List ℕ) (r : ℕ) : Type 0 where
+pub record OfForm (s : List ℕ) (r : ℕ) : Type 0 where
   pub bytes : s ≡ listBytes (transactionsOf s)
-  pub right-list : RightList (transactionsOf s)
+  pub each : RightList (transactionsOf s)
   pub area : r ≡ areaOf (transactionsOf s)
 
-pub accepted : (s : List ℕ) (r : ℕ) → Bytes s → checkOf s ≡ Accepted r → Accepts s r
+pub accepted : (s : List ℕ) (r : ℕ) → Bytes s → checkOf s ≡ Accepted r → OfForm s r
 unfolding messagesBytes
 accepted s r byte e =
     let h = holds s r e in
     let o = stands-sound byte (h .stands) in
-    record { bytes = o .bytes; right-list = o .list; area = h .area }
+    record { bytes = o .bytes; each = o .list; area = h .area }

@@ -9,43 +9,32 @@ use lib.ListN.{length, getD, set, drop, replicate, length-append, length-replica
 use lib.Seq.{set-at}
 use borrow.Author.Tests.{lt-ltb, le-ltb}
 use Rattle.orders.proofs.KindLaws.{some-message}
-use Rattle.orders.proofs.WholeMessage.{message-inv}
-use Rattle.orders.proofs.Round.{holds}
+use Rattle.orders.proofs.WholeMessage.{message-size, message-room, message-below}
+use Rattle.orders.proofs.Stands.{holds}
 use Rattle.orders.specs.Kinds.{mostBytes}
 use Rattle.orders.specs.Form.{Message, Transaction, whole, messageAt, transactionsOf}
 use Rattle.orders.specs.Places.{sizeAt, roomAt, Stands, ended, begins, follows}
 use Rattle.orders.specs.Results.{slotsOf, slotsOfAll, areaOf, blankArea, startArea, checkOf}
-use Rattle.orders.specs.Start.{outcomes, startedOf}
+use Rattle.orders.specs.Start.{outcomesFrom, startedOf}
 use Rattle.orders.specs.declared.Checked.the-variants.{Accepted}
-
--- what the bytes at a message's place say of it
-module _ (s : List ℕ) (p : ℕ) (m : Message) (q : ℕ) (i : messageAt s p ≡ whole m q) where
-  pub stands-size : p + sizeAt s p ≡ q
-  stands-size = let is = message-inv s p m q i in let next = is .next in rw (is .kind, is .asked) (omega arith)
-
-  pub stands-room : roomAt s p ≡ slotsOf m
-  stands-room = let is = message-inv s p m q i in rw (is .kind, is .asked)
-
-  pub stands-below : p < length s
-  stands-below = let is = message-inv s p m q i in let next = is .next in let room = is .room in omega arith
 
 -- zeros in two parts, after the bytes before them
 zeros : (pre : List ℕ) (k r : ℕ) (tail : List ℕ) → pre ++ (replicate (k + r) 0 ++ tail) ≡ (pre ++ replicate k 0) ++ (replicate r 0 ++ tail)
 zeros pre k r tail = rw (← replicate-append-replicate {A = ℕ} k r 0) (simp append-assoc)
 
 marks : (n : ℕ) {s : List ℕ} {p : ℕ} {ms : List Message} {ts : List Transaction} → Stands s p ms ts → length s - p < n → (pre tail : List ℕ) (top : ℕ) → length pre ≡ top
-    → outcomes n (length ms) s p top (pre ++ (replicate (slotsOfAll ms + areaOf ts) 0 ++ tail)) ≡ pre ++ (replicate (slotsOfAll ms) 0 ++ (blankArea ts ++ tail))
-unfolding outcomes slotsOfAll areaOf blankArea
+    → outcomesFrom n (length ms) s p top (pre ++ (replicate (slotsOfAll ms + areaOf ts) 0 ++ tail)) ≡ pre ++ (replicate (slotsOfAll ms) 0 ++ (blankArea ts ++ tail))
+unfolding outcomesFrom slotsOfAll areaOf blankArea
 marks zero st h pre tail top e = absurd (omega arith)
 marks (suc n) {s} {p} (ended l) h pre tail top e = rw (le-ltb p (length s) l)
 marks (suc n) {s} (follows {p} {q} {m} {ms} {ts} i st) h pre tail top e =
-    let b = stands-below s p m q i in
-    let z = stands-size s p m q i in
+    let b = message-below s p m q i in
+    let z = message-size s p m q i in
     let a = add-assoc (slotsOf m) (slotsOfAll ms) (areaOf ts) in
     let g = zeros pre (slotsOf m) (slotsOfAll ms + areaOf ts) tail in
     let f = zeros pre (slotsOf m) (slotsOfAll ms) (blankArea ts ++ tail) in
     let k : length (pre ++ replicate (slotsOf m) 0) ≡ top + slotsOf m = rw (length-append pre (replicate (slotsOf m) 0), length-replicate {A = ℕ} (slotsOf m) 0, e) in
-    rw (lt-ltb p (length s) b, z, stands-room s p m q i, a, g, f) (marks n st (omega arith) (pre ++ replicate (slotsOf m) 0) tail (top + slotsOf m) k)
+    rw (lt-ltb p (length s) b, z, message-room s p m q i, a, g, f) (marks n st (omega arith) (pre ++ replicate (slotsOf m) 0) tail (top + slotsOf m) k)
 marks (suc n) {s} (begins {p} {q} {m} {ms} {ts} l c k i st) h pre tail top e =
     let one = some-message (getD s p 0) c in
     let left : getD s p 0 ≡ suc (length ms) = omega arith in
