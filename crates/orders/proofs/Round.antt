@@ -1,25 +1,22 @@
 -- The form is that of the paper: the bytes of right transactions are accepted and read back, and whatever is accepted is such bytes.
 -- Assumes nothing.
 use mathlib.Core.Path.{_≡_, refl, ap, sym, _∙_}
-use mathlib.Core.Bool.{Bool, true, false, cond}
 use mathlib.Core.List.{List, [], _∷_, _++_, append-assoc}
-use Prim.Native.Nat.{ℕ, zero, suc, _+_, _-_, _*_, _/_, _%_, _<_, _≤_}
+use Prim.Native.Nat.{ℕ, suc, _+_, _-_, _/_, _%_, _<_, _≤_}
 use native.Mathlib.Nat.{add-zero}
 use native.Mathlib.Numerals.{add-one}
 use native.Mathlib.Omega.{arith}
-use lib.ListN.{length, getD, take, drop, length-append, length-drop, take-append-drop, drop-of-length-le}
-use lib.Dec.{ltb}
-use borrow.Author.Tests.{ltb-false}
+use lib.ListN.{length, getD, drop, length-append, length-drop, take-append-drop, drop-of-length-le}
 use lib.Seq.{drop-cons, length-take-le, getD-drop, drop-drop, take-append-seam, drop-append-seam}
 use Rattle.orders.proofs.KindLaws.{tests, some-message}
-use Rattle.orders.proofs.WholeMessage.{IsMessage, message-inv}
+use Rattle.orders.proofs.WholeMessage.{message-inv}
 use Rattle.orders.proofs.Stands.{stands-parsed, holds}
 use Rattle.orders.specs.Kinds.{mostBytes, dataOf}
-use Rattle.orders.specs.Form.{Message, Transaction, whole, Parsed, right, wrong, messageAt, waitAt, parsed, transactionsOf}
+use Rattle.orders.specs.Form.{Message, Transaction, whole, right, messageAt, waitAt, parsed, transactionsOf}
 use Rattle.orders.specs.Places.{Stands, ended, begins, follows}
-use Rattle.orders.specs.Results.{areaOf, checkedAs, checkOf}
-use Rattle.orders.specs.Bytes.{Bytes, messageBytes, messagesBytes, listBytes, RightMessage, RightMessages, RightTransaction, RightList}
-use Rattle.orders.specs.declared.Checked.the-variants.{Accepted, TooLong}
+use Rattle.orders.specs.Results.{areaOf, checkOf}
+use Rattle.orders.specs.Bytes.{Bytes, messageBytes, messagesBytes, listBytes, RightMessage, RightMessages, RightList}
+use Rattle.orders.specs.declared.Checked.the-variants.{Accepted}
 
 -- ---- bytes that are right stand as what they are
 

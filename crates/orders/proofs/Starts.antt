@@ -1,19 +1,18 @@
 -- The area that is started in place is the one that the paper starts. Assumes nothing.
-use mathlib.Core.Path.{_≡_, refl, ap, sym, _∙_}
-use mathlib.Core.Bool.{cond}
+use mathlib.Core.Path.{_≡_, refl}
 use mathlib.Core.List.{List, [], _∷_, _++_, append-assoc}
 use Prim.Native.Nat.{ℕ, zero, suc, _+_, _-_, _<_, _≤_}
 use native.Mathlib.Nat.{add-assoc, zero-add}
 use native.Mathlib.Omega.{arith}
-use lib.ListN.{length, getD, set, drop, replicate, length-append, length-replicate, replicate-append-replicate}
+use lib.ListN.{length, getD, drop, replicate, length-append, length-drop, length-replicate, replicate-append-replicate}
 use lib.Seq.{set-at}
 use borrow.Author.Tests.{lt-ltb, le-ltb}
 use Rattle.orders.proofs.KindLaws.{some-message}
 use Rattle.orders.proofs.WholeMessage.{message-size, message-room, message-below}
 use Rattle.orders.proofs.Stands.{holds}
 use Rattle.orders.specs.Kinds.{mostBytes}
-use Rattle.orders.specs.Form.{Message, Transaction, whole, messageAt, transactionsOf}
-use Rattle.orders.specs.Places.{sizeAt, roomAt, Stands, ended, begins, follows}
+use Rattle.orders.specs.Form.{Message, Transaction, transactionsOf}
+use Rattle.orders.specs.Places.{Stands, ended, begins, follows}
 use Rattle.orders.specs.Results.{slotsOf, slotsOfAll, areaOf, blankArea, startArea, checkOf}
 use Rattle.orders.specs.Start.{outcomesFrom, startedOf}
 use Rattle.orders.specs.declared.Checked.the-variants.{Accepted}
@@ -53,3 +52,22 @@ starts s r a e h =
     let g = le-ltb (length a) r h in
     let k = le-ltb mostBytes (length s) (o .short) in
     rw (g, k, o .area) (simp zero-add at (marks (suc (length s)) (o .stands) (omega arith) [] (drop (areaOf (transactionsOf s)) a) 0 refl))
+
+pub blank-length : (ts : List Transaction) → length (blankArea ts) ≡ areaOf ts
+unfolding blankArea areaOf
+blank-length [] = refl
+blank-length (t ∷ ts) =
+    let n : ℕ = slotsOfAll (t .first ∷ t .others) in
+    let r = blank-length ts in
+    let a = length-append (replicate n 0) (blankArea ts) in
+    let b = length-replicate {A = ℕ} n 0 in
+    omega arith
+
+-- the area keeps its length
+pub start-length : (ts : List Transaction) (a : List ℕ) → areaOf ts ≤ length a → length (startArea ts a) ≡ length a
+unfolding startArea
+start-length ts a h =
+    let b = blank-length ts in
+    let c = length-append (blankArea ts) (drop (areaOf ts) a) in
+    let d = length-drop (areaOf ts) a in
+    omega arith

@@ -1,5 +1,5 @@
 -- `orders::outcomes` meets its contract: what is still to be written from here on makes the area that was promised. Assumes nothing.
-use mathlib.Core.Path.{_≡_, refl}
+use mathlib.Core.Path.{_≡_}
 use Prim.Native.Nat.{suc, _*_, _-_, _≤_}
 use native.Mathlib.Omega.{arith}
 use lib.ListN.{length}
