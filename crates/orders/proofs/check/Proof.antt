@@ -7,4 +7,4 @@ use Rattle.orders.proofs.check.Tie as tie
 
 pub check-spec : {M : Type 1} → statement M
 unfolding mostBytes
-check-spec = tie.close (tie.spec (λ c. search too-long) (λ c κs. search needs) (λ c. search checked))
+check-spec = tie.close (tie.spec (λ c. too-long _ (search needs)) (λ c κs. search needs) (λ c. search checked))

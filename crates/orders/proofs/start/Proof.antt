@@ -10,4 +10,4 @@ unfolding mostBytes
 start-spec =
     tie.close
     (tie.spec
-    (λ c. search too-small) (λ c. search list-too-long) (λ c κs. search needs) (λ c κs. search needs) (λ c. search needs) (λ c. search started))
+    (λ c. search too-small) (λ c. list-too-long _ _ _ (search needs) (search needs)) (λ c κs. search needs) (λ c κs. search needs) (λ c. search needs) (λ c. search started))
