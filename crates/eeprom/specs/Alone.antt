@@ -10,15 +10,20 @@ use Rattle.lines.specs.Records.{Party, walk, drivesOn, over, no, _then_, badSam
 use Rattle.lines.specs.declared.Lines.{Lines}
 use Rattle.lines.specs.declared.Eye.{Eye}
 use Rattle.eeprom.specs.Pages.{geometryOf}
-use Rattle.eeprom.specs.Stages.{Body, bodyTick, sdaOf}
+use Rattle.eeprom.specs.Stages.{Body, coreOf, bodyTick, sdaOf}
 use Rattle.eeprom.specs.States.{mostBusy, bodyFrom, stateBytes, stateRight}
 use Rattle.eeprom.specs.declared.Model.{Model}
 use Rattle.eeprom.specs.declared.Model.the-variants.{Large}
+use Rattle.eeprom.specs.declared.Watch.{Watch}
 use Rattle.eeprom.specs.declared.Answer.{Answer}
 
 pub record Watching : Type 0 where
   pub eye : Eye
   pub body : Body
+
+-- the code's chip with its lent memory
+abbrev pub watchOf : Watch → List ℕ → Watching
+watchOf w m = record { eye = w .eye; body = record { core = coreOf (w .chip) m; busy = w .busy } }
 
 -- it compares each tick's lines with the tick before; it never drives SCL
 abbrev pub chip : (asked : ℕ) → Party

@@ -1,0 +1,4 @@
+pub mod Pages
+pub mod Kept
+pub mod Hearing
+pub mod Records
