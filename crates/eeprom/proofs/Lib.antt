@@ -2,3 +2,4 @@ pub mod Pages
 pub mod Kept
 pub mod Hearing
 pub mod Records
+pub mod Alone

@@ -6,4 +6,4 @@ pub drive-spec : {M : Type 1} → statement M
 drive-spec =
     tie.close (tie.spec
     (λ c κs. search needs)
-    (λ c. λ m. rw (c .sda .ensures)))
+    (λ c. rw (c .sda .ensures)))
