@@ -124,3 +124,25 @@ state-put p b s s₁ s₂ s₃ s₄ l k e₁ e₂ e₃ e₄ =
         ∙ one-byte 1 b _ _
         ∙ one-byte 0 a _ s
         ∙ from-front _ s
+
+-- one turn of the loop over the samples
+pub turn : (asked i : ℕ) (xs : List ℕ) (w v : Watch) (m n d e : List ℕ) (r : Left (chip asked)) (drive l : Lines) (x : ℕ) → leaves (chip asked) i xs (watchOf w m) d ≡ r → drive ≡ hi ∥ sdaOf (w .chip .stage) → x ≡ byteOf drive → e ≡ set d i x → l ≡ linesOf (getD xs i 0) → watchOf v n ≡ chip asked .tick l (watchOf w m) → i < length xs → leaves (chip asked) (i + 1) xs (watchOf v n) e ≡ r
+turn asked i xs w v m n d e r drive l x inv a b p q t h =
+    one-tick (chip asked) i xs (watchOf w m) (watchOf v n) d e refl (t ∙ ap (λ (y : Lines). chip asked .tick y (watchOf w m)) q) (p ∙ ap (λ (y : ℕ). set d i y) (b ∙ ap byteOf a)) h ∙ inv
+
+module _ (strap asked : ℕ) (memory state samples drives : List ℕ) where
+  pub turned-down : (n : ℕ) → n ≡ chipNumber strap memory state asked samples drives → (n ≡ 0 → ⊥) → leftBy (record { number = n; ticks = 0 }) memory state drives ≡ chipAlone strap memory state asked samples drives
+  unfolding chipAlone
+  turned-down n e h = rw (← e, ne-eqb n 0 h)
+
+  abbrev told-of : Left (chip asked) → ChipAlone
+  told-of z = record { answer = record { number = 0; ticks = z .ticks }; memory = z .last .body .core .kept .memory; state = stateBytes (z .last .body) []; drives = z .drives }
+
+  pub ran : (n i p b : ℕ) (w₀ w : Watch) (m d s : List ℕ) → n ≡ chipNumber strap memory state asked samples drives → n ≡ 0 → p ≡ wordAt state 0 → b ≡ wordAt state 2 → ((k : List ℕ) → watchOf w₀ k ≡ restOf (keptAt (80 + strap) Large p k) b) → leaves (chip asked) i samples (watchOf w m) d ≡ leaves (chip asked) 0 samples (watchOf w₀ memory) drives → s ≡ over (wordBytes (w .chip .store .pointer) (wordBytes (w .busy) [])) state → length samples ≤ i → leftBy (record { number = 0; ticks = i }) m s d ≡ chipAlone strap memory state asked samples drives
+  unfolding chipAlone
+  ran n i p b w₀ w m d s e z pe be rest inv se h =
+      let row : s ≡ stateBytes (watchOf w m .body) [] = se ∙ over-whole _ state (sym (four-bytes strap asked memory state samples drives n e z)) in
+      let same : watchOf w₀ memory ≡ record { eye = opened; body = bodyFrom strap Large memory state 0 } = rest memory ∙ rw (pe, be) in
+      let all : record { last = watchOf w m; drives = d; ticks = i } ≡ leaves (chip asked) 0 samples (record { eye = opened; body = bodyFrom strap Large memory state 0 }) drives =
+      sym (at-end (chip asked) i samples (watchOf w m) d h) ∙ inv ∙ ap (λ (y : Watching). leaves (chip asked) 0 samples y drives) same in
+      rw (← e, z, row) (ap told-of (all ∙ from-first (chip asked) samples _ drives))

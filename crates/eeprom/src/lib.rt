@@ -534,7 +534,11 @@ pub fn state_right(model: Model, pointer: u16, busy: u16) -> bool
     ensures { λ r. ⌜ r ≡ (ltb pointer (geometryOf model .size) && leb busy mostBusy) ⌝ }
 {
     let size = model.size();
-    if pointer < size { busy <= MOST_BUSY } else { false }
+    if pointer < size {
+        busy <= MOST_BUSY
+    } else {
+        false
+    }
 }
 
 pub struct Answer {
