@@ -13,6 +13,10 @@ pub record Kept : Type 0 where
   pub store : Store
   pub memory : List ℕ
 
+-- the code's store with its lent memory
+abbrev pub keptOf : Store → List ℕ → Kept
+keptOf s m = record { store = s; memory = m }
+
 abbrev pub geo : Store → Geometry
 geo s = geometryOf (s .model)
 

@@ -1,6 +1,7 @@
 -- Size and page of a chip, and the steps of its pointer (paper 01, "What is on the board", "What the chip does"). Every rule is over the geometry; a
 -- model is a row of numbers. Assumes nothing.
-use Prim.Native.Nat.{ℕ, _+_, _*_, _/_, _%_}
+use Prim.Native.Nat.{ℕ, _+_, _*_, _/_, _%_, _≤_}
+use mathlib.Core.Path.{_≡_}
 use Rattle.eeprom.specs.declared.Model.{Model}
 use Rattle.eeprom.specs.declared.Model.the-variants.{Large}
 
@@ -12,6 +13,12 @@ pub record Geometry : Type 0 where
 
 unfoldable pub geometryOf : Model → Geometry
 geometryOf Large = record { size = 4096; page = 32; lead = 2 }
+
+-- a number of a model, with the bounds that hold for every model
+pub record Shape (low high r n : ℕ) : Type 0 where
+  pub is : r ≡ n
+  pub least : low ≤ r
+  pub most : r ≤ high
 
 -- the page's first byte
 unfoldable pub pageStart : Geometry → ℕ → ℕ

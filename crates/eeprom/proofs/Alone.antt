@@ -1,0 +1,148 @@
+-- What the code of the entry "one chip alone" leans on: its refusals in their order, a tick of the chip with its eye, the bytes of its state, and the
+-- whole run. Assumes nothing.
+use Prim.Native.Nat.{ℕ, zero, suc, _+_, _*_, _/_, _%_, _<_, _≤_}
+use mathlib.Core.Path.{_≡_, refl, ap, sym, _∙_}
+use mathlib.Core.Bool.{Bool, true, false, not, _&&_}
+use mathlib.Core.List.{List, [], _∷_}
+use native.Mathlib.Omega.{arith}
+use borrow.Author.Tests.{lt-ltb, le-ltb, le-leb, eq-eqb, ne-eqb, ltb-false, eqb-true, not-true, not-false}
+use lib.Dec.{eqb, ltb, leb}
+use lib.ListN.{length, getD, set}
+use Rattle.lines.specs.Levels.{hi, _∥_, byteOf, linesOf}
+use Rattle.lines.specs.Events.{eventOf, eyeAfter, opened}
+use Rattle.lines.specs.Records.{walk, drivesOn, over, no, _then_, allWithin, badSample}
+use Rattle.lines.specs.declared.Lines.{Lines}
+use Rattle.lines.specs.declared.Eye.{Eye}
+use Rattle.lines.specs.declared.Event.{Event}
+use Rattle.eeprom.specs.Pages.{geometryOf}
+use Rattle.eeprom.specs.Keeping.{Kept, keptOf}
+use Rattle.eeprom.specs.Stages.{Core, coreOf, hears, sdaOf, busyAfter, bodyTick}
+use Rattle.eeprom.specs.States.{mostBusy, wordAt, wordBytes, keptAt, bodyFrom, stateBytes, stateRight}
+use Rattle.eeprom.specs.Alone.{Watching, watchOf, restOf, chip, chipNumber, ChipAlone, leftBy, chipAlone}
+use Rattle.eeprom.specs.declared.Store.{Store}
+use Rattle.eeprom.specs.declared.Stage.the-variants.{Deaf}
+use Rattle.eeprom.specs.declared.Chip.{Chip}
+use Rattle.eeprom.specs.declared.Watch.{Watch}
+use Rattle.eeprom.specs.declared.Answer.{Answer}
+use Rattle.eeprom.specs.declared.Model.{Model}
+use Rattle.eeprom.specs.declared.Model.the-variants.{Large}
+use Rattle.eeprom.proofs.Records.{Left, leaves, one-byte, all-bytes, from-front, from-first, one-tick, at-end, over-whole, none-first, none-later, not-said}
+
+pub in-range : (m : Model) (size p b : ℕ) → size ≡ geometryOf m .size → p < size → leb b 20000 ≡ (ltb p (geometryOf m .size) && leb b mostBusy)
+unfolding mostBusy
+in-range m size p b is h = rw (← is, lt-ltb p size h)
+
+pub past-the-end : (m : Model) (size p b : ℕ) → size ≡ geometryOf m .size → size ≤ p → false ≡ (ltb p (geometryOf m .size) && leb b mostBusy)
+past-the-end m size p b is h = rw (← is, le-ltb p size h)
+
+-- the refusals, each after those before it were passed
+module _ (strap asked : ℕ) (memory state samples drives : List ℕ) where
+  pub no-such-strap : 7 < strap → 10 ≡ chipNumber strap memory state asked samples drives
+  unfolding chipNumber
+  no-such-strap h = rw (lt-ltb 7 strap h)
+
+  module _ (size : ℕ) (is : size ≡ geometryOf Large .size) (a : strap ≤ 7) where
+    pub memory-not-whole : (length memory ≡ size → ⊥) → 3 ≡ chipNumber strap memory state asked samples drives
+    unfolding chipNumber
+    memory-not-whole h = rw (le-ltb 7 strap a, ← is, ne-eqb (length memory) size h)
+
+    module _ (b : length memory ≡ size) where
+      whole : eqb (length memory) (geometryOf Large .size) ≡ true
+      whole = eq-eqb (length memory) (geometryOf Large .size) (b ∙ is)
+
+      pub state-not-four : (length state ≡ 4 → ⊥) → 3 ≡ chipNumber strap memory state asked samples drives
+      unfolding chipNumber
+      state-not-four h = rw (le-ltb 7 strap a, whole, ne-eqb (length state) 4 h)
+
+      module _ (c : length state ≡ 4) (p busy : ℕ) (right : Bool) (pe : p ≡ wordAt state 0) (be : busy ≡ wordAt state 2) (re : right ≡ (ltb p (geometryOf Large .size) && leb busy mostBusy)) where
+        told : right ≡ stateRight (bodyFrom strap Large memory state 0)
+        told = re ∙ rw (pe, be)
+
+        pub state-not-right : not right ≡ true → 4 ≡ chipNumber strap memory state asked samples drives
+        unfolding chipNumber
+        state-not-right h = rw (le-ltb 7 strap a, whole, eq-eqb (length state) 4 c, ← told, h)
+
+        module _ (d : not right ≡ false) where
+          pub asked-too-long : 20000 < asked → 6 ≡ chipNumber strap memory state asked samples drives
+          unfolding chipNumber mostBusy
+          asked-too-long h = rw (le-ltb 7 strap a, whole, eq-eqb (length state) 4 c, ← told, d, lt-ltb 20000 asked h)
+
+          module _ (e : asked ≤ 20000) (fine : Bool) (fe : fine ≡ allWithin 3 samples) where
+            pub sample-too-large : not fine ≡ true → 8 ≡ chipNumber strap memory state asked samples drives
+            unfolding chipNumber mostBusy
+            sample-too-large h = rw (le-ltb 7 strap a, whole, eq-eqb (length state) 4 c, ← told, d, le-ltb 20000 asked e, ← fe, h)
+
+            module _ (f : not fine ≡ false) where
+              pub drives-too-short : length drives < length samples → 9 ≡ chipNumber strap memory state asked samples drives
+              unfolding chipNumber mostBusy
+              drives-too-short h =
+                  rw (le-ltb 7 strap a, whole, eq-eqb (length state) 4 c, ← told, d, le-ltb 20000 asked e, ← fe, f, lt-ltb (length drives) (length samples) h)
+
+              pub accepted : length samples ≤ length drives → 0 ≡ chipNumber strap memory state asked samples drives
+              unfolding chipNumber mostBusy
+              accepted h =
+                  rw (le-ltb 7 strap a, whole, eq-eqb (length state) 4 c, ← told, d, le-ltb 20000 asked e, ← fe, f, le-ltb (length drives) (length samples) h)
+
+  -- what an accepted call has
+  pub strap-in : (n : ℕ) → n ≡ chipNumber strap memory state asked samples drives → n ≡ 0 → strap ≤ 7
+  unfolding chipNumber
+  strap-in n e z = ltb-false 7 strap (not-said 9 (ltb 7 strap) (none-first (no 10 (ltb 7 strap)) _ (sym e ∙ z)))
+
+  pub four-bytes : (n : ℕ) → n ≡ chipNumber strap memory state asked samples drives → n ≡ 0 → length state ≡ 4
+  unfolding chipNumber
+  four-bytes n e z =
+      let later : (no 3 (not (eqb (length memory) (geometryOf Large .size) && eqb (length state) 4)) then _) ≡ 0 = none-later (no 10 (ltb 7 strap)) _ (sym e ∙ z) in
+      eqb-true (length state) 4 (both (eqb (length memory) (geometryOf Large .size)) (eqb (length state) 4) (not-false _ (not-said 2 _ (none-first _ _ later))))
+    where
+      both : (a b : Bool) → (a && b) ≡ true → b ≡ true
+      both true b h = h
+      both false b h = absurd (let z : _≡_ {A = ℕ} 0 1 = cc in omega arith)
+
+pub rests : (eye : Eye) (s : Store) (name : ℕ) (model : Model) (p busy : ℕ) → eye ≡ opened → ((m : List ℕ) → keptOf s m ≡ keptAt name model p m) → (m : List ℕ) → watchOf (record { eye = eye; chip = record { stage = Deaf; store = s }; busy = busy }) m ≡ restOf (keptAt name model p m) busy
+rests eye s name model p busy q h m = rw q (ap (λ (k : Kept). restOf k busy) (h m))
+
+abbrev seeing : Eye → Core → ℕ → Watching
+seeing eye c busy = record { eye = eye; body = record { core = c; busy = busy } }
+
+-- one tick of the chip with its eye
+pub ticked : (w : Watch) (m n : List ℕ) (asked : ℕ) (l : Lines) (e : Event) (eye : Eye) (k : Chip) (busy : ℕ) → e ≡ eventOf (w .eye) l → ((m : List ℕ) → busy ≡ busyAfter asked e (coreOf (w .chip) m) (w .busy)) → coreOf k n ≡ hears (eqb (w .busy) 0) e (coreOf (w .chip) m) → eye ≡ eyeAfter (w .eye) l → watchOf (record { eye = eye; chip = k; busy = busy }) n ≡ chip asked .tick l (watchOf w m)
+unfolding bodyTick
+ticked w m n asked l e eye k busy q b h a = rw (a, ← q, b m) (ap (λ (c : Core). seeing (eyeAfter (w .eye) l) c (busyAfter asked e (coreOf (w .chip) m) (w .busy))) h)
+
+-- the four bytes of its state
+pub state-put : (p b : ℕ) (s s₁ s₂ s₃ s₄ : List ℕ) → p < 65536 → b < 65536 → s₁ ≡ set s 0 (p % 256) → s₂ ≡ set s₁ 1 (p / 256) → s₃ ≡ set s₂ 2 (b % 256) → s₄ ≡ set s₃ 3 (b / 256) → s₄ ≡ over (wordBytes p (wordBytes b [])) s
+state-put p b s s₁ s₂ s₃ s₄ l k e₁ e₂ e₃ e₄ =
+    let i : p / 256 % 256 ≡ p / 256 = omega arith in
+    let j : b / 256 % 256 ≡ b / 256 = omega arith in
+    rw (i, j, e₄, e₃, e₂, e₁) (four (p % 256) (p / 256) (b % 256) (b / 256) s)
+  where
+    four : (a b c d : ℕ) (s : List ℕ) → set (set (set (set s 0 a) 1 b) 2 c) 3 d ≡ over (a ∷ b ∷ c ∷ d ∷ []) s
+    four a b c d s =
+        sym (all-bytes 4 _)
+        ∙ one-byte 3 d [] _
+        ∙ one-byte 2 c _ _
+        ∙ one-byte 1 b _ _
+        ∙ one-byte 0 a _ s
+        ∙ from-front _ s
+
+-- one turn of the loop over the samples
+pub turn : (asked i : ℕ) (xs : List ℕ) (w v : Watch) (m n d e : List ℕ) (r : Left (chip asked)) (drive l : Lines) (x : ℕ) → leaves (chip asked) i xs (watchOf w m) d ≡ r → drive ≡ hi ∥ sdaOf (w .chip .stage) → x ≡ byteOf drive → e ≡ set d i x → l ≡ linesOf (getD xs i 0) → watchOf v n ≡ chip asked .tick l (watchOf w m) → i < length xs → leaves (chip asked) (i + 1) xs (watchOf v n) e ≡ r
+turn asked i xs w v m n d e r drive l x inv a b p q t h =
+    one-tick (chip asked) i xs (watchOf w m) (watchOf v n) d e refl (t ∙ ap (λ (y : Lines). chip asked .tick y (watchOf w m)) q) (p ∙ ap (λ (y : ℕ). set d i y) (b ∙ ap byteOf a)) h ∙ inv
+
+module _ (strap asked : ℕ) (memory state samples drives : List ℕ) where
+  pub turned-down : (n : ℕ) → n ≡ chipNumber strap memory state asked samples drives → (n ≡ 0 → ⊥) → leftBy (record { number = n; ticks = 0 }) memory state drives ≡ chipAlone strap memory state asked samples drives
+  unfolding chipAlone
+  turned-down n e h = rw (← e, ne-eqb n 0 h)
+
+  abbrev told-of : Left (chip asked) → ChipAlone
+  told-of z = record { answer = record { number = 0; ticks = z .ticks }; memory = z .last .body .core .kept .memory; state = stateBytes (z .last .body) []; drives = z .drives }
+
+  pub ran : (n i p b : ℕ) (w₀ w : Watch) (m d s : List ℕ) → n ≡ chipNumber strap memory state asked samples drives → n ≡ 0 → p ≡ wordAt state 0 → b ≡ wordAt state 2 → ((k : List ℕ) → watchOf w₀ k ≡ restOf (keptAt (80 + strap) Large p k) b) → leaves (chip asked) i samples (watchOf w m) d ≡ leaves (chip asked) 0 samples (watchOf w₀ memory) drives → s ≡ over (wordBytes (w .chip .store .pointer) (wordBytes (w .busy) [])) state → length samples ≤ i → leftBy (record { number = 0; ticks = i }) m s d ≡ chipAlone strap memory state asked samples drives
+  unfolding chipAlone
+  ran n i p b w₀ w m d s e z pe be rest inv se h =
+      let row : s ≡ stateBytes (watchOf w m .body) [] = se ∙ over-whole _ state (sym (four-bytes strap asked memory state samples drives n e z)) in
+      let same : watchOf w₀ memory ≡ record { eye = opened; body = bodyFrom strap Large memory state 0 } = rest memory ∙ rw (pe, be) in
+      let all : record { last = watchOf w m; drives = d; ticks = i } ≡ leaves (chip asked) 0 samples (record { eye = opened; body = bodyFrom strap Large memory state 0 }) drives =
+      sym (at-end (chip asked) i samples (watchOf w m) d h) ∙ inv ∙ ap (λ (y : Watching). leaves (chip asked) 0 samples y drives) same in
+      rw (← e, z, row) (ap told-of (all ∙ from-first (chip asked) samples _ drives))

@@ -1,0 +1,12 @@
+use borrow.Author.Needs.{needs}
+use Rattle.eeprom.proofs.Pages.{start-fits, start-reckoned}
+use Rattle.eeprom.proofs.Model.page_start.Statement.{statement}
+use Rattle.eeprom.proofs.Model.page_start.Tie as tie
+
+pub page-start-spec : {M : Type 1} → statement M
+page-start-spec =
+    tie.close (tie.spec
+    (λ c κs. search needs)
+    (λ c. search needs)
+    (λ c. search start-fits)
+    (λ c. search start-reckoned))

@@ -1,0 +1,12 @@
+use borrow.Author.Needs.{needs}
+use mathlib.Core.Path.{_∙_}
+use Rattle.eeprom.proofs.Kept.{byte-is}
+use Rattle.eeprom.proofs.Store.byte_now.Statement.{statement}
+use Rattle.eeprom.proofs.Store.byte_now.Tie as tie
+
+pub byte-now-spec : {M : Type 1} → statement M
+byte-now-spec =
+    tie.close (tie.spec
+    (λ c. search needs)
+    (λ c κs. search needs)
+    (λ c. c .byte-at .ensures ∙ byte-is _))

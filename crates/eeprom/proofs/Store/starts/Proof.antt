@@ -1,0 +1,10 @@
+use borrow.Author.Needs.{needs}
+use Rattle.eeprom.proofs.Store.starts.Statement.{statement}
+use Rattle.eeprom.proofs.Store.starts.Tie as tie
+
+pub starts-spec : {M : Type 1} → statement M
+starts-spec =
+    tie.close (tie.spec
+    (λ c κs. search needs)
+    (λ c κs. search needs)
+    (λ c. rw (c .emptied .ensures, c .before .lead .ensures .is)))

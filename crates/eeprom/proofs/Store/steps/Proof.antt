@@ -1,0 +1,9 @@
+use borrow.Author.Needs.{needs}
+use Rattle.eeprom.proofs.Store.steps.Statement.{statement}
+use Rattle.eeprom.proofs.Store.steps.Tie as tie
+
+pub steps-spec : {M : Type 1} → statement M
+steps-spec =
+    tie.close (tie.spec
+    (λ c κs. search needs)
+    (λ c. rw (c .read-step .ensures)))

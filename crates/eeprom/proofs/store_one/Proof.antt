@@ -1,0 +1,13 @@
+use borrow.Author.Needs.{needs}
+use Rattle.eeprom.proofs.Kept.{one-stored, none-stored}
+use Rattle.eeprom.proofs.store_one.Statement.{statement}
+use Rattle.eeprom.proofs.store_one.Tie as tie
+
+pub store-one-spec : {M : Type 1} → statement M
+store-one-spec =
+    tie.close (tie.spec
+    (λ c. search needs)
+    (λ c κs. search needs)
+    (λ c. search needs)
+    (λ c. search one-stored)
+    (λ c. search none-stored))
