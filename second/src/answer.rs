@@ -22,6 +22,8 @@ impl Answer {
 }
 
 /// How the controller alone ended.
+// open: the paper numbers the refusals and the faults, but gives no number for
+// "the list's end" and "the record's end"; so these are names only here.
 #[derive(Clone, Copy, Debug, PartialEq, Eq)]
 pub enum End {
     /// The call was refused; nothing ran.

@@ -75,12 +75,17 @@ enum Doing {
     /// "After START it takes eight bits."
     Address(Bits),
     /// It pulls SDA for its address; then it sends if it was a read.
-    AcksAddress { read: bool },
+    AcksAddress {
+        read: bool,
+    },
     Takes(Part, Bits),
     /// It pulls SDA for a written byte; then comes the next part.
     AcksByte(Part),
     /// It sends the byte; this many of its bits have been delivered.
-    Sends { byte: u8, done: u8 },
+    Sends {
+        byte: u8,
+        done: u8,
+    },
     /// The byte is out; its ninth bit is awaited.
     AwaitsNinth,
 }
@@ -112,7 +117,8 @@ impl Chip {
             busy: u16::from_le_bytes([state[2], state[3]]),
             before: Lines::FREE,
             // open: no bit is noted before SCL first rises. A fall then would
-            // deliver one, yet the chip isn't addressed and ignores it.
+            // deliver one, yet the chip isn't addressed and ignores it: none
+            // can tell.
             noted: true,
             edge: false,
             doing: Doing::Silent,
@@ -203,7 +209,11 @@ impl Chip {
             Doing::Silent => Doing::Silent,
             Doing::Address(bits) => {
                 let bits = bits.with(bit);
-                if bits.count < 8 { Doing::Address(bits) } else { self.addressed(bits.value) }
+                if bits.count < 8 {
+                    Doing::Address(bits)
+                } else {
+                    self.addressed(bits.value)
+                }
             }
             // "Bits delivered while it sends or acknowledges are ignored":
             // they lose their value and still step the chip on (reading 21).
@@ -219,13 +229,21 @@ impl Chip {
                 }
             }
             Doing::Sends { byte, done } => {
-                if done < 7 { Doing::Sends { byte, done: done + 1 } } else { Doing::AwaitsNinth }
+                if done < 7 {
+                    Doing::Sends { byte, done: done + 1 }
+                } else {
+                    Doing::AwaitsNinth
+                }
             }
             // "the pointer steps modulo 4,096 when the ninth bit is delivered;
             // a 1 there silences it" - and steps it as well (reading 22).
             Doing::AwaitsNinth => {
                 self.pointer = (self.pointer + 1) % 4096;
-                if bit { Doing::Silent } else { self.send(memory) }
+                if bit {
+                    Doing::Silent
+                } else {
+                    self.send(memory)
+                }
             }
         };
     }
@@ -287,5 +305,7 @@ pub fn alone(
         chip.see(Lines::of(*sample), memory);
     }
     chip.save(state);
+    // open: the paper names no tick count for an accepted chip alone. "a byte a
+    // tick" and no other end than the record's: it is the record's length.
     Answer::accepted(samples.len() as u64)
 }

@@ -77,10 +77,11 @@ impl<'a> Controller<'a> {
             }
             State::Waits(ticks) => *ticks -= 1,
             State::Clocks(clocking) => {
-                let p = clocking.drives().sda;
                 match clocking.see(seen) {
                     Outcome::Goes => {}
                     Outcome::Ended(sda) => {
+                        // It is still in phase 3: what it drove there is p.
+                        let p = clocking.drives().sda;
                         let next = self.orders.ended(sda, results);
                         self.go_to(next, p);
                     }
@@ -99,12 +100,7 @@ impl<'a> Controller<'a> {
 
 /// The controller alone: a record of samples in, one drive byte a tick out.
 /// Gives the desk's number, the end and the ticks.
-pub fn alone(
-    list: &[u8],
-    samples: &[u8],
-    drives: &mut [u8],
-    results: &mut [u8],
-) -> (u8, End, u64) {
+pub fn alone(list: &[u8], samples: &[u8], drives: &mut [u8], results: &mut [u8]) -> (u8, End, u64) {
     if let Err(number) = refuse::controller(list, samples, drives, results) {
         return (number, End::Refused, 0);
     }

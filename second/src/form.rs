@@ -42,13 +42,21 @@ impl Head {
 
     /// How many bytes of the list the message takes: three, "a write's data".
     pub fn list_size(&self) -> usize {
-        if self.is_read() { 3 } else { 3 + self.length }
+        if self.is_read() {
+            3
+        } else {
+            3 + self.length
+        }
     }
 
     /// How many bytes of the result area are its: "a flag, a count, and a
     /// byte per byte asked of a read".
     pub fn result_size(&self) -> usize {
-        if self.is_read() { 2 + self.length } else { 2 }
+        if self.is_read() {
+            2 + self.length
+        } else {
+            2
+        }
     }
 
     /// "the address byte (address × 2, plus 1 for a read)"
@@ -63,7 +71,7 @@ pub fn transaction_at(list: &[u8], at: usize) -> Option<(u8, u16)> {
     let count = *list.get(at)?;
     let low = *list.get(at + 1)?;
     let high = *list.get(at + 2)?;
-    if count < 1 || count > 8 {
+    if !(1..=8).contains(&count) {
         return None;
     }
     Some((count, u16::from_le_bytes([low, high])))

@@ -4,6 +4,8 @@ use crate::lines::Lines;
 
 /// It knows the lines alone. SCL falls once in each clocked symbol, in phase
 /// 0, so the i-th fall is the i-th clocked symbol of the run (reading 3).
+// open: the paper does not say how the holder knows the controller's phases.
+// "Ticks and symbols" lets a party drive from what it saw, so it counts falls.
 #[derive(Clone, Copy, Debug)]
 pub struct Holder<'a> {
     holds: &'a [u8],

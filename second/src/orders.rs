@@ -104,7 +104,11 @@ impl<'a> Orders<'a> {
             Place::Start => self.bit(0),
             Place::Bit(n) => {
                 self.received = self.received << 1 | sda as u8;
-                if n < 7 { self.bit(n + 1) } else { self.ninth() }
+                if n < 7 {
+                    self.bit(n + 1)
+                } else {
+                    self.ninth()
+                }
             }
             Place::Ninth => self.ninth_ended(sda, results),
             Place::Stop => {

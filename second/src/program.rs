@@ -14,8 +14,7 @@ pub fn answer(input: &[u8]) -> String {
     let mut memory = vec![0xFF; 4096];
     let mut states = [0; 4];
     let mut results = vec![0; form::result_size(input).unwrap_or(0)];
-    let answer =
-        wires::run(input, 1, &mut memory, &mut states, &[], 8000, &mut results, &mut []);
+    let answer = wires::run(input, 1, &mut memory, &mut states, &[], 8000, &mut results, &mut []);
     if answer.number != 0 {
         return format!("refused {}\n", answer.number);
     }

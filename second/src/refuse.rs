@@ -15,7 +15,11 @@ pub const LONGEST_HOLD: u8 = 16;
 type Check = Result<(), u8>;
 
 fn refuse_if(bad: bool, number: u8) -> Check {
-    if bad { Err(number) } else { Ok(()) }
+    if bad {
+        Err(number)
+    } else {
+        Ok(())
+    }
 }
 
 /// 1: list over 4,096 bytes.

@@ -42,7 +42,9 @@ const MOST_HELD: u8 = 16;
 pub struct Clocking {
     symbol: Symbol,
     phase: u8,
-    /// p: "the SDA that it drove in phase 3 before" (driven, reading 2).
+    /// p: "the SDA that it drove in phase 3 before" (driven, reading 2). In
+    /// front of a repeated START or STOP it is always 1: a received ninth, or
+    /// the answer 1 to the last byte read.
     p: bool,
     /// Held ticks of this symbol so far.
     held: u8,

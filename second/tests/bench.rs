@@ -150,3 +150,14 @@ fn the_program() {
     assert_eq!(program::answer(&[0; 512]), "refused 2\n");
     assert_eq!(program::answer(&[0; 513]), "refused 1\n");
 }
+
+/// The benchmark's load is an accepted one, and it does what it says.
+#[test]
+fn the_load() {
+    let mut load = second::counterpart::Load::new(0xFF, 80);
+    let (answer, _) = load.time();
+    assert_eq!(answer.number, 0);
+    assert!(load.list.len() <= 4096);
+    // Each write is stored and read back: every first data byte is there.
+    assert!((0..80).all(|i| load.memory[4096 * (i % 8) + i * 32] == i as u8));
+}

@@ -203,7 +203,8 @@ fn reading_16_the_faulting_tick() {
 fn faults_keep_the_slots() {
     // The address was acknowledged, one byte written; the next byte faults.
     let list = [1, 0, 0, 0x50, 0, 2, 0xFF, 0xFF];
-    let acks = |tick: usize| if (37..40).contains(&tick) || (73..76).contains(&tick) { 1 } else { 3 };
+    let acks =
+        |tick: usize| if (37..40).contains(&tick) || (73..76).contains(&tick) { 1 } else { 3 };
     let mut samples = record(&list, acks);
     samples[78] = 1;
     let (end, ticks, _, results) = controller_on(&list, &samples);

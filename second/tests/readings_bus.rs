@@ -165,7 +165,8 @@ fn reading_9_a_one_is_no_fault() {
     assert_eq!((left.results, left.answer.ticks), (vec![0, 1, 0, 0, 0, 0, 0], 84));
     // A written byte answered with 1, critical and not; a message follows.
     // The first message's second byte gets the 1 (ninth at 108 to 111).
-    let acks = |tick: usize| if (37..40).contains(&tick) || (73..76).contains(&tick) { 1 } else { 3 };
+    let acks =
+        |tick: usize| if (37..40).contains(&tick) || (73..76).contains(&tick) { 1 } else { 3 };
     for (kind, ticks) in [(0, 112 + 4), (2, 112 + 40 + 4)] {
         let list = [2, 0, 0, 0x50, kind, 3, 1, 2, 3, 0x50, 0, 0];
         let samples = record(&list, acks);
@@ -222,13 +223,11 @@ fn refusals_come_in_each_entrys_own_order() {
         let holds = if step > 4 { [16] } else { [17] };
         let asked = if step > 5 { 20_000 } else { 20_001 };
         let mut results = vec![0; if step > 6 { 3 } else { 2 }];
-        let answer = wires::run(
-            list, 1, &mut memory, &mut states, &holds, asked, &mut results, &mut [],
-        );
+        let answer =
+            wires::run(list, 1, &mut memory, &mut states, &holds, asked, &mut results, &mut []);
         let (mut memory, mut states, mut results) =
             (vec![0; memory.len()], states.clone(), vec![0; results.len()]);
-        let again =
-            plain::read(list, 1, &mut memory, &mut states, &holds, asked, &mut results);
+        let again = plain::read(list, 1, &mut memory, &mut states, &holds, asked, &mut results);
         assert_eq!(answer, again);
         met.push(answer.number);
     }
@@ -265,7 +264,9 @@ fn limits_of_the_refusals() {
         left.answer.number
     };
     // 3: memory and states each for themselves, one byte more too.
-    for (memory, states) in [(4095, 4), (4097, 4), (4096, 3), (4096, 5), (0, 4), (4096, 0), (8192, 8)] {
+    for (memory, states) in
+        [(4095, 4), (4097, 4), (4096, 3), (4096, 5), (0, 4), (4096, 0), (8192, 8)]
+    {
         let mut board = Board::bench();
         board.memory = vec![0; memory];
         board.states = vec![0; states];

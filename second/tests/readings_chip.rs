@@ -96,7 +96,8 @@ fn it_sends_highest_bit_first() {
     let from = lead.len();
     let seen = lead.nine(0xFF, 0).nine(0xFF, 1).bit(1).chip(4095, 0, 0, &[(4095, 0xA5), (0, 0x0F)]);
     // A bit shows in the tick after the fall, which is the bit's high tick.
-    let sent = |at: usize| (0..8).fold(0u8, |byte, n| byte << 1 | !seen.pulls(at + 2 * n + 1) as u8);
+    let sent =
+        |at: usize| (0..8).fold(0u8, |byte, n| byte << 1 | !seen.pulls(at + 2 * n + 1) as u8);
     assert_eq!((sent(from), sent(from + 18)), (0xA5, 0x0F));
     // It lets go for the ninth bit.
     assert!(!seen.pulls(from + 17) && !seen.pulls(from + 35));
@@ -235,6 +236,15 @@ fn bits_after_stop_are_ignored() {
     assert!(seen.pulls(stop - 1));
     assert!((stop..seen.drives.len()).all(|tick| !seen.pulls(tick)));
     assert_eq!(seen.pointer, 0);
+}
+
+#[test]
+fn stop_empties_the_latch() {
+    // A second STOP without a START between: SDA falls while SCL is low. It
+    // stores nothing, and the busy time goes on falling.
+    let record = pointed(0, 5).nine(0x99, 0).stop().idle(4).ticks(&[2, 0, 1, 3]);
+    let seen = record.chip(0, 0, 40, &[]);
+    assert_eq!((seen.stored(), seen.busy), (vec![(5, 0x99)], 32));
 }
 
 #[test]

@@ -80,9 +80,7 @@ fn holds(rng: &mut Rng) -> Vec<u8> {
     let count = rng.pick(&[0, 0, 5, 20, 100, 400]);
     let most = rng.pick(&[1, 3, 16]);
     let share = rng.pick(&[5, 50, 100]);
-    (0..count)
-        .map(|_| if rng.chance(share) { rng.range(0, most) as u8 } else { 0 })
-        .collect()
+    (0..count).map(|_| if rng.chance(share) { rng.range(0, most) as u8 } else { 0 }).collect()
 }
 
 /// A busy time, with a bent for the ticks where a first transaction without

@@ -118,7 +118,7 @@ pub fn list_of_size(rng: &mut Rng, size: usize) -> Vec<u8> {
 /// Damages a list in one of the ways a desk meets. It may still be right.
 pub fn damage(rng: &mut Rng, list: &mut Vec<u8>) {
     let at = if list.is_empty() { 0 } else { rng.below(list.len()) };
-    match rng.below(9) {
+    match rng.below(10) {
         0 if !list.is_empty() => list[at] ^= 1 << rng.below(8),
         1 if !list.is_empty() => list[at] = rng.byte(),
         2 => list.truncate(at),
@@ -135,6 +135,17 @@ pub fn damage(rng: &mut Rng, list: &mut Vec<u8>) {
         8 if list.len() >= 6 => {
             list[4] = rng.below(4) as u8;
             list[5] = rng.pick(&[0, 1, 64, 65, 255]);
+        }
+        9 => {
+            // A transaction of seven to ten messages behind or alone.
+            let count = rng.range(7, 10) as u8;
+            if rng.chance(50) {
+                list.clear();
+            }
+            list.extend([count, 0, 0]);
+            for _ in 0..count {
+                list.extend([80, 2, 0]);
+            }
         }
         _ => list.insert(at, rng.byte()),
     }

@@ -85,7 +85,11 @@ impl Pen<'_> {
     }
 
     fn more_edges(&mut self) -> usize {
-        if self.rng.chance(85) { 0 } else { self.rng.range(1, 4) }
+        if self.rng.chance(85) {
+            0
+        } else {
+            self.rng.range(1, 4)
+        }
     }
 
     fn start(&mut self) {
@@ -131,6 +135,11 @@ impl Pen<'_> {
         }
         if self.rng.chance(75) {
             self.stop();
+            // A second STOP without a START between.
+            if self.rng.chance(15) {
+                self.hold(0, 1);
+                self.stop();
+            }
             for _ in 0..self.rng.pick(&[0, 1, 10, 40]) {
                 self.hold(1, 1);
             }
@@ -176,7 +185,13 @@ pub fn reactive(rng: &mut Rng, list: &[u8], wrong: usize, most: usize) -> Vec<u8
         if controller.symbol().is_none() && rng.chance(30) {
             seen = Lines::of(rng.below(4) as u8);
         }
-        if rng.below(1000) < wrong {
+        // START and STOP are rare; they get their share of wrong ticks.
+        let often = match controller.symbol() {
+            Some(Symbol::RepeatedStart | Symbol::Stop) => 60,
+            Some(Symbol::FirstStart) => 5,
+            _ => 1,
+        };
+        if rng.below(1000) < often * wrong {
             seen = match rng.below(3) {
                 0 => Lines::new(!seen.scl, seen.sda),
                 1 => Lines::new(seen.scl, !seen.sda),

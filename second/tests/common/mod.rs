@@ -207,8 +207,7 @@ impl Record {
         let mut state = pointer.to_le_bytes().to_vec();
         state.extend(busy.to_le_bytes());
         let mut drives = vec![0xEE; self.samples.len()];
-        let answer =
-            chip::alone(0, &mut memory, &mut state, asked, &self.samples, &mut drives);
+        let answer = chip::alone(0, &mut memory, &mut state, asked, &self.samples, &mut drives);
         assert_eq!(answer, Answer { number: 0, ticks: self.samples.len() as u64 });
         Seen {
             memory,
