@@ -10,7 +10,9 @@ use Rattle.lines.specs.Events.{isQuiet}
 use Rattle.lines.specs.declared.Event.{Event}
 use Rattle.lines.specs.declared.Event.the-variants.{Quiet, Started, Stopped, Bit}
 use Rattle.eeprom.specs.Stages.{Core, coreOf, due, hears, sdaOf, bodyTick, busyAfter}
-use Rattle.board.specs.Seats.{Seated, bodyOf, freeAfter, heard, allUp}
+use Rattle.eeprom.specs.declared.Chip.{Chip}
+use Rattle.board.specs.Seats.{Seated, parted, bodyOf, freeAfter, heard, allUp}
+use Rattle.board.specs.declared.Seat.{Seat}
 
 -- free at a tick: no busy ticks are left
 pub free-is : (f t : ℕ) → eqb (f - t) 0 ≡ leb f t
@@ -24,7 +26,7 @@ free-is f t = go (leb f t) refl
     go true e = eq-eqb (f - t) 0 (yes-free f t (leb-true f t e))
     go false e = ne-eqb (f - t) 0 (not-free f t (leb-false f t e))
 
-busy-is : (asked t : ℕ) (e : Event) (c : Core) (f : ℕ) → freeAfter asked t e c f - suc t ≡ busyAfter asked e c (f - t)
+busy-is : (asked t : ℕ) (e : Event) (c : Core) (f : ℕ) → freeAfter asked t e (due c) f - suc t ≡ busyAfter asked e c (f - t)
 busy-is asked t Quiet c f = omega arith
 busy-is asked t Started c f = omega arith
 busy-is asked t Stopped c f = go (due c)
@@ -33,6 +35,14 @@ busy-is asked t Stopped c f = go (due c)
     go true = omega arith
     go false = omega arith
 busy-is asked t (Bit b) c f = omega arith
+
+-- a chip's own answer, put together with the tick from which it is free
+pub heard-so : (asked t : ℕ) (e : Event) (x : Seat) (m n : List ℕ) (y : Chip) (d : Bool) (f : ℕ) → coreOf y n ≡ hears (leb (x .free) t) e (coreOf (x .chip) m)
+    → ((k : List ℕ) → d ≡ due (coreOf (x .chip) k)) → f ≡ freeAfter asked t e d (x .free)
+    → parted (record { chip = y; free = f }) n ≡ heard asked t e (parted x m)
+heard-so asked t e x m n y d f p q r =
+    ap₂ (λ (c : Core) (g : ℕ). parted (record { chip = record { stage = c .stage; store = c .kept .store }; free = g }) (c .kept .memory)) p
+    (r ∙ ap (λ (b : Bool). freeAfter asked t e b (x .free)) (q m))
 
 heard-one : (asked t : ℕ) (e : Event) (x : Seated) → bodyOf (suc t) (heard asked t e x) ≡ bodyTick asked e (bodyOf t x)
 unfolding bodyTick

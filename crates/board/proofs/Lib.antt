@@ -2,3 +2,4 @@ pub mod Places
 pub mod Done
 pub mod Seated
 pub mod Heard
+pub mod Loading

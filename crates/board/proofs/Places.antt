@@ -3,7 +3,7 @@ use Prim.Native.Nat.{ℕ, zero, suc, _+_, _*_, _/_, _%_, _^_, _≤_, _<_}
 use mathlib.Core.Path.{_≡_, refl, ap, sym, _∙_}
 use mathlib.Core.Bool.{Bool, true, false}
 use native.Mathlib.Omega.{arith}
-use native.Mathlib.Nat.{mod-lt, mod-le, mod-eq-of-lt, pow-suc, lt-of-le-of-lt, one-mul, mul-comm}
+use native.Mathlib.Nat.{mod-lt, mod-eq-of-lt, pow-suc, lt-of-le-of-lt, one-mul, mul-comm}
 use lib.Arith.{mod-mul}
 use lib.Count.{ones, ones-cat, ones-le}
 use lib.Dec.{eqb}
@@ -22,8 +22,11 @@ strap-bit s h = ap (λ (n : ℕ). n % 4294967296) (one-mul (2 ^ s)) ∙ mod-eq-o
 pub strap-some : (s : ℕ) → s ≤ 8 → 0 < 1 * 2 ^ s % 4294967296
 strap-some s h = rw (strap-bit s h) (pow-pos s)
 
-pub few-below : (m s : ℕ) → m < 256 → ones (m % s) ≤ 8
-few-below m s h = ones-le 8 (m % s) (lt-of-le-of-lt (mod-le m s) h)
+pub few-below : (m s : ℕ) → s ≤ 8 → ones (m % (1 * 2 ^ s % 4294967296)) ≤ s
+few-below m s h = rw (strap-bit s h) (ones-le s (m % 2 ^ s) (mod-lt m (pow-pos s)))
+
+pub all-places : (m : ℕ) → m < 256 → placeOf m 8 ≡ ones m
+all-places m h = ap ones (mod-eq-of-lt h)
 
 pub place-is : (m s : ℕ) → s ≤ 8 → ones (m % (1 * 2 ^ s % 4294967296)) ≡ placeOf m s
 place-is m s h = ap (λ (n : ℕ). ones (m % n)) (strap-bit s h)

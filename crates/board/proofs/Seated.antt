@@ -8,11 +8,8 @@ use mathlib.Core.List.{List, [], _∷_, _++_, append-assoc, map}
 use lib.ListN.{length, getD, set, take, drop, length-drop, take-append-drop}
 use lib.Seq.{drop-drop, take-add, take-at, drop-at, length-take-le, take-all, take-nil}
 use Rattle.board.specs.Marks.{memories}
-use Rattle.board.specs.Seats.{Seated, sizeOf, seated, offset, bodyOf}
+use Rattle.board.specs.Seats.{Seated, parted, sizeOf, seated, offset, bodyOf}
 use Rattle.board.specs.declared.Seat.{Seat}
-
-abbrev pub with-part : Seat → List ℕ → Seated
-with-part x m = record { seat = x; memory = m }
 
 pub seated-length : (n : ℕ) (xs : List Seat) (m : List ℕ) → n ≤ length xs → length (seated n xs m) ≡ n
 unfolding seated
@@ -54,7 +51,7 @@ offset-within (suc i) (suc n) (x ∷ xs) h = num (sizeOf x) _ _ (offset-within i
 -- one chip
 
 pub seated-at : (i n : ℕ) (xs : List Seat) (m : List ℕ) (x : Seated) (d : Seat) → i < n → n ≤ length xs
-    → getD (seated n xs m) i x ≡ with-part (getD xs i d) (take (sizeOf (getD xs i d)) (drop (offset i xs) m))
+    → getD (seated n xs m) i x ≡ parted (getD xs i d) (take (sizeOf (getD xs i d)) (drop (offset i xs) m))
 unfolding seated offset
 seated-at i zero xs m x d h l = absurd (omega arith)
 seated-at i (suc n) [] m x d h l = absurd (omega arith)
@@ -65,19 +62,19 @@ seated-at (suc i) (suc n) (c ∷ cs) m x d h l =
 -- a chip of the same size and its part take the place of what stood there
 pub seated-set : (i n : ℕ) (xs : List Seat) (m p : List ℕ) (y d : Seat) → i < n → n ≤ length xs → sizeOf y ≡ sizeOf (getD xs i d)
     → length p ≡ sizeOf y → offset i xs + sizeOf y ≤ length m
-    → seated n (set xs i y) (take (offset i xs) m ++ (p ++ drop (sizeOf y) (drop (offset i xs) m))) ≡ set (seated n xs m) i (with-part y p)
+    → seated n (set xs i y) (take (offset i xs) m ++ (p ++ drop (sizeOf y) (drop (offset i xs) m))) ≡ set (seated n xs m) i (parted y p)
 unfolding seated offset
 seated-set i zero xs m p y d h l s e r = absurd (omega arith)
 seated-set i (suc n) [] m p y d h l s e r = absurd (omega arith)
 seated-set zero (suc n) (c ∷ cs) m p y d h l s e r =
     rw (take-at p (drop (sizeOf y) m) (sizeOf y) e, drop-at p (drop (sizeOf y) m) (sizeOf y) e)
-    (ap (λ (k : ℕ). with-part y p ∷ seated n cs (drop k m)) s)
+    (ap (λ (k : ℕ). parted y p ∷ seated n cs (drop k m)) s)
 seated-set (suc i) (suc n) (c ∷ cs) m p y d h l s e r =
     let g : length (take (sizeOf c) m) ≡ sizeOf c = length-take-le (sizeOf c) m (num (sizeOf c) (offset i cs) (sizeOf y) (length m) r) in
     let t : List ℕ = take (offset i cs) (drop (sizeOf c) m) ++ (p ++ drop (sizeOf y) (drop (sizeOf c + offset i cs) m)) in
     rw (take-add (sizeOf c) (offset i cs) m, append-assoc, take-at (take (sizeOf c) m) t (sizeOf c) g, drop-at (take (sizeOf c) m) t (sizeOf c) g,
       ← drop-drop (offset i cs) (sizeOf c) m)
-    (ap (λ (l : List Seated). with-part c (take (sizeOf c) m) ∷ l)
+    (ap (λ (l : List Seated). parted c (take (sizeOf c) m) ∷ l)
     (seated-set i n cs (drop (sizeOf c) m) p y d (suc-le-suc-iff .0 h) (suc-le-suc-iff .0 l) s e
     (rw length-drop (num2 (sizeOf c) (offset i cs) (sizeOf y) (length m) r))))
   where

@@ -17,14 +17,19 @@ unfoldable pub statesRight : List Body → Bool
 statesRight [] = true
 statesRight (b ∷ bs) = stateRight b && statesRight bs
 
+-- what the board itself turns down, in the order 3 to 6
+unfoldable pub boardNumber : (marks : ℕ) → (memory states holds : List ℕ) → (asked : ℕ) → ℕ
+boardNumber marks memory states holds asked =
+    no 3 (not (eqb (length memory) (memoryAt marks 8) && eqb (length states) (4 * chipCount marks)))
+    then no 4 (not (statesRight (bodies marks memory states)))
+    then no 5 (not (allWithin mostHeld holds))
+    then no 6 (ltb mostBusy asked)
+
 -- looked at in the order 1 to 7
 unfoldable pub busNumber : (list : List ℕ) → (marks : ℕ) → (memory states holds : List ℕ) → (asked : ℕ) → (results : List ℕ) → ℕ
 busNumber list marks memory states holds asked results =
     listNumber (checkOf list)
-    then no 3 (not (eqb (length memory) (memoryAt marks 8) && eqb (length states) (4 * chipCount marks)))
-    then no 4 (not (statesRight (bodies marks memory states)))
-    then no 5 (not (allWithin mostHeld holds))
-    then no 6 (ltb mostBusy asked)
+    then boardNumber marks memory states holds asked
     then no 7 (ltb (length results) (areaOf (transactionsOf list)))
 
 -- what both runs hand back

@@ -1,18 +1,25 @@
 -- Inside: the code's chips, side by side with their parts of the lent memory, as the rules' chips at a tick. No entry cites it. Assumes nothing.
-use Prim.Native.Nat.{ℕ, zero, suc, _+_, _-_}
+use Prim.Native.Nat.{ℕ, zero, suc, _+_, _-_, _*_}
 use mathlib.Core.Bool.{Bool, true, _&&_, cond}
 use mathlib.Core.List.{List, [], _∷_}
 use lib.Dec.{leb}
 use lib.ListN.{take, drop}
 use Rattle.lines.specs.declared.Event.{Event}
 use Rattle.lines.specs.declared.Event.the-variants.{Quiet, Started, Stopped, Bit}
+use Rattle.lines.specs.Levels.{bitAt}
 use Rattle.eeprom.specs.Pages.{geometryOf}
 use Rattle.eeprom.specs.Stages.{Core, Body, coreOf, due, hears, sdaOf}
+use Rattle.eeprom.specs.States.{keptAt, wordAt}
+use Rattle.eeprom.specs.declared.Stage.the-variants.{Deaf}
+use Rattle.board.specs.Marks.{modelAt, placeOf}
 use Rattle.board.specs.declared.Seat.{Seat}
 
 pub record Seated : Type 0 where
   pub seat : Seat
   pub memory : List ℕ
+
+abbrev pub parted : Seat → List ℕ → Seated
+parted x m = record { seat = x; memory = m }
 
 abbrev pub sizeOf : Seat → ℕ
 sizeOf x = geometryOf (x .chip .store .model) .size
@@ -21,7 +28,7 @@ sizeOf x = geometryOf (x .chip .store .model) .size
 unfoldable pub seated : ℕ → List Seat → List ℕ → List Seated
 seated zero xs m = []
 seated (suc n) [] m = []
-seated (suc n) (x ∷ xs) m = record { seat = x; memory = take (sizeOf x) m } ∷ seated n xs (drop (sizeOf x) m)
+seated (suc n) (x ∷ xs) m = parted x (take (sizeOf x) m) ∷ seated n xs (drop (sizeOf x) m)
 
 -- where the part of seat i begins
 unfoldable pub offset : ℕ → List Seat → ℕ
@@ -35,11 +42,11 @@ bodyOf t x = record { core = coreOf (x .seat .chip) (x .memory); busy = x .seat 
 
 -- what an event of tick t makes of a chip and its memory: an answer is decided by whether the chip is free at t, and a STOP that stores makes it busy for
 -- the asked time from the tick after on
-abbrev pub freeAfter : (asked tick : ℕ) → Event → Core → ℕ → ℕ
-freeAfter asked t Quiet c f = f
-freeAfter asked t Started c f = f
-freeAfter asked t Stopped c f = cond (due c) (t + 1 + asked) f
-freeAfter asked t (Bit b) c f = f
+abbrev pub freeAfter : (asked tick : ℕ) → Event → (due : Bool) → ℕ → ℕ
+freeAfter asked t Quiet d f = f
+freeAfter asked t Started d f = f
+freeAfter asked t Stopped d f = cond d (t + 1 + asked) f
+freeAfter asked t (Bit b) d f = f
 
 abbrev pub coreAt : (tick : ℕ) → Event → Seated → Core
 coreAt t e x = hears (leb (x .seat .free) t) e (coreOf (x .seat .chip) (x .memory))
@@ -49,7 +56,7 @@ heard asked t e x =
     record {
       seat = record {
         chip = record { stage = coreAt t e x .stage; store = coreAt t e x .kept .store };
-        free = freeAfter asked t e (coreOf (x .seat .chip) (x .memory)) (x .seat .free);
+        free = freeAfter asked t e (due (coreOf (x .seat .chip) (x .memory))) (x .seat .free);
       };
       memory = coreAt t e x .kept .memory;
     }
@@ -58,3 +65,16 @@ heard asked t e x =
 unfoldable pub allUp : List Seated → Bool
 allUp [] = true
 allUp (x ∷ xs) = sdaOf (x .seat .chip .stage) && allUp xs
+
+-- the chips that the marks name, before the first tick: n straps from s on
+module _ (marks : ℕ) (states : List ℕ) where
+  abbrev pub seatAt : ℕ → Seat
+  seatAt s =
+      record {
+        chip = record { stage = Deaf; store = keptAt (80 + s) (modelAt marks s) (wordAt states (4 * placeOf marks s)) [] .store };
+        free = wordAt states (4 * placeOf marks s + 2);
+      }
+
+  unfoldable pub seatsFrom : (n s : ℕ) → List Seat
+  seatsFrom zero s = []
+  seatsFrom (suc n) s = let rest : List Seat = seatsFrom n (suc s) in cond (bitAt s marks) (seatAt s ∷ rest) rest

@@ -1,9 +1,17 @@
-// The board: which chips the marks name, and where each one's memory and state stand in what is lent.
+// The board: which chips the marks name, where each one's memory and state stand in what is lent, and what the desk turns down of it.
 ghost use mathlib.Core.Path.{_≡_};
-ghost use Prim.Native.Nat.{_≤_};
-ghost use Rattle.board.specs.Marks.{chipCount, placeOf};
-
+ghost use Prim.Native.Nat.{_+_, _*_, _≤_, _<_};
+ghost use lib.ListN.{take};
+ghost use Rattle.board.specs.Marks.{chipCount, placeOf, bodies};
+ghost use Rattle.board.specs.Desk.{statesRight, boardNumber};
+ghost use Rattle.board.specs.Seats.{parted, freeAfter, heard, seatAt, seatsFrom};
 use eeprom::Chip;
+use eeprom::Model;
+use eeprom::Stage;
+use eeprom::Store;
+use eeprom::word_at;
+use lines::Event;
+use lines::bit_at;
 
 // A chip in a run, with the tick from which it is no longer busy.
 pub struct Seat {
@@ -29,7 +37,73 @@ pub fn chip_count(marks: u8) -> usize
 pub fn place_of(marks: u8, strap: u8) -> usize
     requires { ⌜ strap ≤ 8 ⌝ }
     ensures value { λ r. ⌜ r ≡ placeOf marks strap ⌝ }
+    ensures few { λ r. ⌜ r ≤ strap ⌝ }
 {
     let below = marks as u32 % (1u32 << strap);
     u32::count_ones(below) as usize
+}
+
+// A STOP that stores makes a chip busy from the tick after on: counted from the last data byte it would answer too early.
+fn free_after(due: bool, event: Event, tick: usize, asked: u16, free: usize) -> usize
+    requires { ⌜ tick < 1099511627776 ⌝ }
+    ensures { λ r. ⌜ r ≡ freeAfter asked tick event due free ⌝ }
+{
+    match event {
+        Event::Quiet => free,
+        Event::Started => free,
+        Event::Stopped => if due { tick + 1 + asked as usize } else { free },
+        Event::Bit(_) => free,
+    }
+}
+
+impl Seat {
+    // What an event of this tick makes of the chip and of its memory.
+    pub fn hear(self, event: Event, tick: usize, asked: u16, mem: &mut [u8]) -> Seat
+        requires { ⌜ tick < 1099511627776 ⌝ }
+        ensures { λ r. ⌜ parted r (now (mem .exit)) ≡ heard asked tick event (parted self (now (mem .entry))) ⌝ }
+    {
+        let chip = self.chip;
+        let free = free_after(chip.due(), event, tick, asked, self.free);
+        let next = chip.hear(self.free <= tick, event, mem);
+        Seat {
+            chip: next,
+            free: free,
+        }
+    }
+}
+
+// The chip at a strap, before the first tick.
+fn seat_at(marks: u8, states: &[u8], strap: u8) -> Seat
+    requires { ⌜ strap < 8 ⌝ }
+    ensures { λ r. ⌜ r ≡ seatAt marks (now (states .entry)) strap ⌝ }
+{
+    let place = place_of(marks, strap) as u8;
+    let pointer = word_at(states, 4 * place);
+    let busy = word_at(states, 4 * place + 2);
+    let store = Store::at_rest(80 + strap, Model::Large, pointer);
+    Seat {
+        chip: Chip {
+            stage: Stage::Deaf,
+            store: store,
+        },
+        free: busy as usize,
+    }
+}
+
+// The chips that the marks name, in place order, each at its place.
+pub fn load(marks: u8, states: &[u8]) -> [Seat; 8]
+    ensures { λ r. ⌜ take (chipCount marks) r ≡ seatsFrom marks (now (states .entry)) 8 0 ⌝ }
+{
+    let mut seats = [seat_at(marks, states, 0); 8];
+    let mut strap: u8 = 0;
+    while strap < 8 {
+        if bit_at(strap, marks) {
+            let place = place_of(marks, strap);
+            seats[place] = seat_at(marks, states, strap);
+            strap += 1;
+            continue;
+        }
+        strap += 1;
+    }
+    seats
 }

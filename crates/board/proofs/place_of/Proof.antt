@@ -1,5 +1,4 @@
 -- `board::place_of` meets its contract. Assumes nothing.
-use Prim.Native.Nat.{_*_, _%_, _^_}
 use borrow.Author.Needs.{needs}
 use Rattle.board.proofs.Places.{strap-some, few-below, place-is}
 use Rattle.board.proofs.place_of.Statement.{statement}
@@ -11,5 +10,5 @@ place-of-spec =
     (tie.spec
     (λ c. search needs)
     (λ c. search strap-some)
-    (λ c. let h = few-below (c .args .marks) (1 * 2 ^ c .args .strap % 4294967296) (search needs) in search needs)
-    (λ c. search place-is))
+    (λ c. let h = few-below (c .args .marks) (c .args .strap) (c .pre) in search needs)
+    (λ c. (place-is (c .args .marks) (c .args .strap) (c .pre), few-below (c .args .marks) (c .args .strap) (c .pre))))
