@@ -3,3 +3,5 @@ pub mod Done
 pub mod Seated
 pub mod Heard
 pub mod Loading
+pub mod Saving
+pub mod Range

@@ -1,6 +1,6 @@
 -- The chips that the marks name: loaded strap by strap, each at its place, they are the rules' chips before the first tick. Assumes nothing.
 use Prim.Native.Nat.{ℕ, zero, suc, _+_, _-_, _*_, _≤_, _<_}
-use native.Mathlib.Nat.{mod-one, zero-add}
+use native.Mathlib.Nat.{mod-one, zero-add, add-zero, mul-suc, mul-zero, add-comm, sub-zero}
 use native.Mathlib.Numerals.{add-one}
 use native.Mathlib.Omega.{arith}
 use mathlib.Core.Path.{_≡_, refl, ap, ap₂, sym, _∙_}
@@ -8,7 +8,7 @@ use mathlib.Core.Bool.{Bool, true, false, cond}
 use mathlib.Core.List.{List, [], _∷_, _++_, append-assoc, map}
 use lib.Count.{ones}
 use lib.ListN.{length, getD, set, take, drop, length-set}
-use lib.Seq.{take-suc-set, drop-drop, take-nil}
+use lib.Seq.{take-suc-set, drop-drop, length-take-le}
 use Rattle.lines.specs.Levels.{digit, bitAt}
 use Rattle.eeprom.specs.Pages.{geometryOf}
 use Rattle.eeprom.specs.Keeping.{Kept, keptOf}
@@ -18,7 +18,7 @@ use Rattle.eeprom.specs.declared.Model.the-variants.{Large}
 use Rattle.eeprom.specs.declared.Stage.the-variants.{Deaf}
 use Rattle.eeprom.specs.declared.Store.{Store}
 use Rattle.board.specs.Marks.{placeOf, memoryAt, bodyAt, bodiesFrom}
-use Rattle.board.specs.Seats.{Seated, sizeOf, seated, bodyOf, seatAt, seatsFrom}
+use Rattle.board.specs.Seats.{Seated, parted, sizeOf, seated, offset, bodyOf, seatAt, seatsFrom}
 use Rattle.board.specs.declared.Seat.{Seat}
 use Rattle.board.proofs.Places.{place-next, all-places}
 
@@ -78,3 +78,81 @@ module _ (marks : ℕ) (states : List ℕ) where
   all-seats xs s h f l m =
       let e : s ≡ 8 = omega arith in
       sym (append-nil (take (ones marks) xs)) ∙ ap (λ (n : ℕ). take n xs ++ []) (sym (all-places marks h)) ∙ (rw e at f)
+
+-- the loaded chips with their parts of the memory are the rules' chips
+
+pub seated-take : (n : ℕ) (xs : List Seat) (m : List ℕ) → seated n (take n xs) m ≡ seated n xs m
+unfolding seated
+seated-take zero xs m = refl
+seated-take (suc n) [] m = refl
+seated-take (suc n) (x ∷ xs) m = ap (λ (l : List Seated). parted x (take (sizeOf x) m) ∷ l) (seated-take n xs (drop (sizeOf x) m))
+
+offset-take : (n : ℕ) (xs : List Seat) → offset n (take n xs) ≡ offset n xs
+unfolding offset
+offset-take zero xs = refl
+offset-take (suc n) [] = refl
+offset-take (suc n) (x ∷ xs) = ap (λ (k : ℕ). sizeOf x + k) (offset-take n xs)
+
+module _ (marks : ℕ) (memory states : List ℕ) where
+  memory-with : (s : ℕ) → bitAt s marks ≡ true → memoryAt marks (suc s) ≡ geometryOf Large .size + memoryAt marks s
+  memory-with s e = ap (λ (n : ℕ). geometryOf Large .size * n) (place-with marks states s e) ∙ num (geometryOf Large .size) (placeOf marks s)
+    where
+      num : (a b : ℕ) → a * suc b ≡ a + a * b
+      num a b = mul-suc a b ∙ add-comm (a * b) a
+
+  memory-without : (s : ℕ) → bitAt s marks ≡ false → memoryAt marks (suc s) ≡ memoryAt marks s
+  memory-without s e = ap (λ (n : ℕ). geometryOf Large .size * n) (place-without marks states s e)
+
+  abbrev seats : ℕ → ℕ → List Seat
+  seats n s = seatsFrom marks states n s
+
+  loaded-from : (n s : ℕ) → map (bodyOf 0) (seated (length (seats n s)) (seats n s) (drop (memoryAt marks s) memory)) ≡ bodiesFrom marks memory states n s
+  unfolding seatsFrom seated bodiesFrom
+  loaded-from zero s = refl
+  loaded-from (suc n) s = go (bitAt s marks) refl (loaded-from n (suc s))
+    where
+      size : ℕ
+      size = geometryOf Large .size
+      go : (b : Bool) → bitAt s marks ≡ b
+          → map (bodyOf 0) (seated (length (seats n (suc s))) (seats n (suc s)) (drop (memoryAt marks (suc s)) memory)) ≡ bodiesFrom marks memory states n (suc s)
+          → map (bodyOf 0) (seated (length (cond b (seatAt marks states s ∷ seats n (suc s)) (seats n (suc s)))) (cond b (seatAt marks states s ∷ seats n (suc s)) (seats n (suc s)))
+          (drop (memoryAt marks s) memory)) ≡ cond b (bodyAt marks memory states s ∷ bodiesFrom marks memory states n (suc s)) (bodiesFrom marks memory states n (suc s))
+      go true e h =
+          ap₂ (λ (k : ℕ) (l : List Body). record { core = bodyAt marks memory states s .core; busy = k } ∷ l) (sub-zero (wordAt states (4 * placeOf marks s + 2)))
+          (ap (λ (l : List ℕ). map (bodyOf 0) (seated (length (seats n (suc s))) (seats n (suc s)) l)) (drop-drop (geometryOf Large .size) (memoryAt marks s) memory ∙ ap (λ (k : ℕ). drop k memory) (add-comm (memoryAt marks s) (geometryOf Large .size) ∙ sym (memory-with s e)))
+          ∙ h)
+      go false e h = ap (λ (k : ℕ). map (bodyOf 0) (seated (length (seats n (suc s))) (seats n (suc s)) (drop k memory))) (sym (memory-without s e)) ∙ h
+
+  none-below : memoryAt marks 0 ≡ 0
+  unfolding ones
+  none-below = ap (λ (n : ℕ). geometryOf Large .size * ones n) (mod-one marks) ∙ mul-zero (geometryOf Large .size)
+
+  offset-from : (n s : ℕ) → memoryAt marks s + offset (length (seats n s)) (seats n s) ≡ memoryAt marks (n + s)
+  unfolding seatsFrom offset
+  offset-from zero s = add-zero (memoryAt marks s) ∙ ap (memoryAt marks) (sym (zero-add s))
+  offset-from (suc n) s = go (bitAt s marks) refl (offset-from n (suc s) ∙ ap (memoryAt marks) (num n s))
+    where
+      num : (n s : ℕ) → n + suc s ≡ suc n + s
+      num n s = omega arith
+      num2 : (a b c d : ℕ) → a + b + c ≡ d → b + (a + c) ≡ d
+      num2 a b c d h = omega arith
+      go : (b : Bool) → bitAt s marks ≡ b → memoryAt marks (suc s) + offset (length (seats n (suc s))) (seats n (suc s)) ≡ memoryAt marks (suc n + s)
+          → memoryAt marks s + offset (length (cond b (seatAt marks states s ∷ seats n (suc s)) (seats n (suc s)))) (cond b (seatAt marks states s ∷ seats n (suc s)) (seats n (suc s))) ≡ memoryAt marks (suc n + s)
+      go true e h = num2 (geometryOf Large .size) (memoryAt marks s) _ _ (ap (λ (k : ℕ). k + offset (length (seats n (suc s))) (seats n (suc s))) (sym (memory-with s e)) ∙ h)
+      go false e h = ap (λ (k : ℕ). k + offset (length (seats n (suc s))) (seats n (suc s))) (sym (memory-without s e)) ∙ h
+
+  module _ (xs : List Seat) (loaded : take (ones marks) xs ≡ seatsFrom marks states 8 0) (room : ones marks ≤ length xs) where
+    as-many : length (seatsFrom marks states 8 0) ≡ ones marks
+    as-many = sym (ap length loaded) ∙ length-take-le (ones marks) xs room
+
+    -- before the first tick
+    pub loaded-is : map (bodyOf 0) (seated (ones marks) xs memory) ≡ bodiesFrom marks memory states 8 0
+    loaded-is =
+        ap (map (bodyOf 0)) (sym (seated-take (ones marks) xs memory) ∙ ap₂ (λ (k : ℕ) (l : List Seat). seated k l memory) (sym as-many) loaded
+        ∙ ap (λ (k : ℕ). seated (length (seats 8 0)) (seats 8 0) (drop k memory)) (sym none-below)) ∙ loaded-from 8 0
+
+    -- their parts make up the memory
+    pub loaded-fits : offset (ones marks) xs ≡ memoryAt marks 8
+    loaded-fits =
+        sym (offset-take (ones marks) xs) ∙ ap₂ offset (sym as-many) loaded ∙ sym (zero-add (offset (length (seats 8 0)) (seats 8 0)))
+        ∙ ap (λ (k : ℕ). k + offset (length (seats 8 0)) (seats 8 0)) (sym none-below) ∙ offset-from 8 0

@@ -9,7 +9,7 @@ use Rattle.lines.specs.declared.Event.the-variants.{Quiet, Started, Stopped, Bi
 use Rattle.lines.specs.Levels.{bitAt}
 use Rattle.eeprom.specs.Pages.{geometryOf}
 use Rattle.eeprom.specs.Stages.{Core, Body, coreOf, due, hears, sdaOf}
-use Rattle.eeprom.specs.States.{keptAt, wordAt}
+use Rattle.eeprom.specs.States.{keptAt, wordAt, wordBytes}
 use Rattle.eeprom.specs.declared.Stage.the-variants.{Deaf}
 use Rattle.board.specs.Marks.{modelAt, placeOf}
 use Rattle.board.specs.declared.Seat.{Seat}
@@ -78,3 +78,12 @@ module _ (marks : ℕ) (states : List ℕ) where
   unfoldable pub seatsFrom : (n s : ℕ) → List Seat
   seatsFrom zero s = []
   seatsFrom (suc n) s = let rest : List Seat = seatsFrom n (suc s) in cond (bitAt s marks) (seatAt s ∷ rest) rest
+
+-- the state bytes of a seat, and of the first n
+abbrev pub seatBytes : (tick : ℕ) → Seat → List ℕ → List ℕ
+seatBytes t x rest = wordBytes (x .chip .store .pointer) (wordBytes (x .free - t) rest)
+
+unfoldable pub seatRow : (tick n : ℕ) → List Seat → List ℕ
+seatRow t zero xs = []
+seatRow t (suc n) [] = []
+seatRow t (suc n) (x ∷ xs) = seatBytes t x (seatRow t n xs)

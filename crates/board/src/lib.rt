@@ -1,16 +1,23 @@
 // The board: which chips the marks name, where each one's memory and state stand in what is lent, and what the desk turns down of it.
 ghost use mathlib.Core.Path.{_≡_};
-ghost use Prim.Native.Nat.{_+_, _*_, _≤_, _<_};
-ghost use lib.ListN.{take};
+ghost use Prim.Native.Nat.{ℕ, _+_, _-_, _*_, _≤_, _<_};
+ghost use mathlib.Core.List.{List, []};
+ghost use lib.ListN.{length, take};
+ghost use Rattle.lines.specs.Records.{over};
 ghost use Rattle.board.specs.Marks.{chipCount, placeOf, bodies};
 ghost use Rattle.board.specs.Desk.{statesRight, boardNumber};
-ghost use Rattle.board.specs.Seats.{parted, freeAfter, heard, seatAt, seatsFrom};
+ghost use Rattle.board.specs.Seats.{parted, freeAfter, heard, seatAt, seatsFrom, seatBytes, seatRow};
 use eeprom::Chip;
+use eeprom::MOST_BUSY;
 use eeprom::Model;
 use eeprom::Stage;
 use eeprom::Store;
+use eeprom::put_state;
+use eeprom::state_right;
 use eeprom::word_at;
 use lines::Event;
+use lines::MOST_HELD;
+use lines::all_within;
 use lines::bit_at;
 
 // A chip in a run, with the tick from which it is no longer busy.
@@ -70,6 +77,23 @@ impl Seat {
             free: free,
         }
     }
+
+    // Its four state bytes, at a tick.
+    fn put(self, tick: usize, state: &mut [u8])
+        ensures { λ _. ⌜ now (state .exit) ≡ over (seatBytes tick self []) (now (state .entry)) ⌝ }
+    {
+        let chip = self.chip;
+        let store = chip.store;
+        let left = busy_left(self.free, tick);
+        put_state(state, store.pointer, (left % 65536) as u16);
+    }
+}
+
+// Busy ticks left.
+fn busy_left(free: usize, tick: usize) -> usize
+    ensures { λ r. ⌜ r ≡ free - tick ⌝ }
+{
+    if tick < free { free - tick } else { 0 }
 }
 
 // The chip at a strap, before the first tick.
@@ -106,4 +130,64 @@ pub fn load(marks: u8, states: &[u8]) -> [Seat; 8]
         strap += 1;
     }
     seats
+}
+
+// The states of the first n chips, in place order.
+pub fn save(seats: [Seat; 8], n: usize, tick: usize, states: &mut [u8])
+    requires { ⌜ (n ≤ 8) × (length (now states) ≡ 4 * n) ⌝ }
+    ensures { λ _. ⌜ now (states .exit) ≡ seatRow tick n seats ⌝ }
+{
+    let mut i = 0;
+    while i < n {
+        let seat = seats[i];
+        let a = i * 4;
+        let e = a + 4;
+        seat.put(tick, &mut states[a..e]);
+        i += 1;
+    }
+}
+
+// Every state in range: a pointer past the memory or an endless busy time would make the chip another one.
+fn states_right(marks: u8, states: &[u8]) -> bool
+    ensures { λ r. ⌜ ((m : List ℕ) → r ≡ statesRight (bodies marks m (now (states .entry)))) ⌝ }
+{
+    let mut strap: u8 = 0;
+    while strap < 8 {
+        if bit_at(strap, marks) {
+            let place = place_of(marks, strap) as u8;
+            let pointer = word_at(states, 4 * place);
+            let busy = word_at(states, 4 * place + 2);
+            if !state_right(Model::Large, pointer, busy) {
+                return false;
+            }
+            strap += 1;
+            continue;
+        }
+        strap += 1;
+    }
+    true
+}
+
+// Why the desk says no to a board, or 0: looked at in the order 3 to 6.
+pub fn board_number(marks: u8, memory: &[u8], states: &[u8], holds: &[u8], asked: u16) -> u8
+    ensures { λ r. ⌜ r ≡ boardNumber marks (now (memory .entry)) (now (states .entry)) (now (holds .entry)) asked ⌝ }
+{
+    let n = chip_count(marks);
+    let size = Model::Large.size() as usize;
+    if memory.len() != size * n {
+        return 3;
+    }
+    if states.len() != 4 * n {
+        return 3;
+    }
+    if !states_right(marks, states) {
+        return 4;
+    }
+    if !all_within(MOST_HELD, holds) {
+        return 5;
+    }
+    if MOST_BUSY < asked {
+        return 6;
+    }
+    0
 }
