@@ -8,3 +8,4 @@ pub mod Round
 pub mod PlaceLaws
 pub mod StartTurns
 pub mod Starts
+pub mod Breaks

@@ -98,13 +98,13 @@ pub accepts : (ts : List Transaction) → RightList ts → length (listBytes ts)
 unfolding checkOf
 accepts ts ok h = simp (tests, read-back ts ok)
 
--- no two lists of transactions have the same bytes
+-- two right lists with the same bytes are one
 pub one-reading : (ts us : List Transaction) → RightList ts → RightList us → listBytes ts ≡ listBytes us → ts ≡ us
 one-reading ts us t u e = let a = transactions-back ts t in let b = transactions-back us u in cc
 
 -- ---- what stands there are the bytes of what is right
 
-pub record Sound (s : List ℕ) (p : ℕ) (ms : List Message) (ts : List Transaction) : Type 0 where
+record Sound (s : List ℕ) (p : ℕ) (ms : List Message) (ts : List Transaction) : Type 0 where
   pub bytes : drop p s ≡ messagesBytes ms ++ listBytes ts
   pub messages : RightMessages ms
   pub list : RightList ts

@@ -21,6 +21,7 @@ use Rattle.orders.specs.declared.Checked.the-variants.{Accepted}
 zeros : (pre : List ℕ) (k r : ℕ) (tail : List ℕ) → pre ++ (replicate (k + r) 0 ++ tail) ≡ (pre ++ replicate k 0) ++ (replicate r 0 ++ tail)
 zeros pre k r tail = rw (← replicate-append-replicate {A = ℕ} k r 0) (simp append-assoc)
 
+-- what is still to be marked lies after `pre`
 marks : (n : ℕ) {s : List ℕ} {p : ℕ} {ms : List Message} {ts : List Transaction} → Stands s p ms ts → length s - p < n → (pre tail : List ℕ) (top : ℕ) → length pre ≡ top
     → outcomesFrom n (length ms) s p top (pre ++ (replicate (slotsOfAll ms + areaOf ts) 0 ++ tail)) ≡ pre ++ (replicate (slotsOfAll ms) 0 ++ (blankArea ts ++ tail))
 unfolding outcomesFrom slotsOfAll areaOf blankArea
@@ -45,6 +46,7 @@ marks (suc n) {s} (begins {p} {q} {m} {ms} {ts} l c k i st) h pre tail top e =
     let r = marks n (follows i st) (omega arith) (pre ++ (255 ∷ [])) tail (top + 1) far in
     rw (lt-ltb p (length s) b, left, x, put) (simp append-assoc (simp append-assoc at r))
 
+-- what a caller has after `check` and its own look at the area's length
 pub starts : (s : List ℕ) (r : ℕ) (a : List ℕ) → checkOf s ≡ Accepted r → r ≤ length a → startedOf s r a ≡ startArea (transactionsOf s) a
 unfolding startedOf startArea slotsOfAll
 starts s r a e h =

@@ -8,7 +8,7 @@ use lib.ListN.{length, getD}
 use Rattle.orders.specs.Kinds.{addressRight, kindRight, lengthRight, countRight, dataOf}
 use Rattle.orders.specs.Form.{Message, Transaction}
 
--- what a lent slice is
+-- what a lent slice holds
 unfoldable pub Bytes : List ℕ → Type 0
 Bytes s = (i : ℕ) → getD s i 0 < 256
 

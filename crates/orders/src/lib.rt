@@ -233,7 +233,7 @@ fn message(list: &[u8], at: usize, left: u8, area: usize) -> Checked
     }
 }
 
-// The whole list.
+// The check of a whole list: what is wrong in it is found before a line is driven or a byte changed.
 pub fn check(list: &[u8]) -> Checked
     ensures { λ r. ⌜ r ≡ checkOf (now (list .entry)) ⌝ }
 {
@@ -317,7 +317,8 @@ fn outcomes(list: &[u8], area: &mut [u8])
     }
 }
 
-// The result area of an accepted list, started: outcomes 255, the rest 0, bytes past `size` as they were.
+// The result area of an accepted list, started: outcomes 255, the rest 0, bytes past `size` as they were. `size` is the one that `check` gave: with
+// a larger one, bytes that are not the list's would be lost.
 pub fn start(list: &[u8], size: usize, area: &mut [u8])
     ensures { λ _. ⌜ now (area .exit) ≡ startedOf (now (list .entry)) size (now (area .entry)) ⌝ }
 {
