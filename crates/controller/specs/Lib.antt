@@ -1,6 +1,7 @@
 pub mod Symbols
 pub mod Faults
 pub mod Ticks
+pub mod Moves
 pub mod Plan
 pub mod Bound
 pub mod Alone

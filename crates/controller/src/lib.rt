@@ -1,6 +1,9 @@
 // The controller: the symbols that it drives, the faults that it sees, and its way through an order list.
 use orders::Quota;
 
+mod symbols;
+mod faults;
+
 // A START is the first of its transaction, or a repeated one.
 pub enum Begin {
     First,
