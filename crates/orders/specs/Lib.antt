@@ -4,3 +4,4 @@ pub mod Bytes
 pub mod Asking
 pub mod Results
 pub mod Marks
+pub mod Check

@@ -1,4 +1,18 @@
 // The order list: which form it has, how large its result area is, and what stands at a place of it.
+ghost use mathlib.Core.Path.{_≡_};
+ghost use Prim.Native.Nat.{suc, _+_, _-_, _*_, _<_, _≤_};
+ghost use lib.ListN.{length, getD, set};
+ghost use Rattle.orders.specs.Kinds.{mostBytes, isWrite, isCritical, kindRight, addressRight, countRight, lengthRight, dataOf, askedOf, quotaOf, follow, remain};
+ghost use Rattle.orders.specs.Form.{breaks, messageAt};
+ghost use Rattle.orders.specs.Results.{checkOf, listNumber};
+ghost use Rattle.orders.specs.Check.{foundAs, Tells};
+
+// The most that a list has in bytes, a transaction in messages, a message in bytes written or asked for.
+pub const MOST_BYTES: usize = 4096;
+
+pub const MOST_MESSAGES: u8 = 8;
+
+pub const MOST_LENGTH: u8 = 64;
 
 // Which rule of the form a list breaks.
 pub enum Rule {
@@ -22,7 +36,203 @@ pub enum Checked {
     Broken(Break),
 }
 
+impl Checked {
+    // Its number on the desk's list, 0 if it is accepted.
+    pub fn number(self) -> u8
+        ensures { λ r. ⌜ r ≡ listNumber self ⌝ }
+    {
+        match self {
+            Checked::Accepted(_) => 0,
+            Checked::TooLong => 1,
+            Checked::Broken(_) => 2,
+        }
+    }
+}
+
 // How many bytes a read still asks for after the one under way.
 pub struct Quota {
     pub more: u8,
+}
+
+impl Quota {
+    // How many bytes follow one of this value.
+    pub fn follow(self, byte: u8) -> u8
+        ensures { λ r. ⌜ r ≡ follow self byte ⌝ }
+    {
+        self.more
+    }
+
+    // The quota of the next byte, with n more after that.
+    pub fn remain(self, n: u8) -> Quota
+        ensures { λ r. ⌜ r ≡ remain self n ⌝ }
+    {
+        Quota { more: n }
+    }
+}
+
+// What stands where a message is due: a whole one, with the place after it and its slots in the result area, or a break.
+enum Found {
+    Whole { next: usize, slots: usize },
+    Broken(Break),
+}
+
+// ---- kinds, and the limits of each byte
+
+pub fn is_write(kind: u8) -> bool
+    ensures { λ r. ⌜ r ≡ isWrite kind ⌝ }
+{
+    kind % 2 == 0
+}
+
+pub fn is_critical(kind: u8) -> bool
+    ensures { λ r. ⌜ r ≡ isCritical kind ⌝ }
+{
+    kind < 2
+}
+
+// The data bytes that follow in the list.
+pub fn data_of(kind: u8, n: u8) -> u8
+    ensures { λ r. ⌜ r ≡ dataOf kind n ⌝ }
+{
+    if is_write(kind) { n } else { 0 }
+}
+
+// The bytes asked of a read.
+pub fn asked_of(kind: u8, n: u8) -> u8
+    ensures { λ r. ⌜ r ≡ askedOf kind n ⌝ }
+{
+    if is_write(kind) { 0 } else { n }
+}
+
+// What a read's first byte leaves to come.
+pub fn quota_of(kind: u8, n: u8) -> Quota
+    ensures { λ r. ⌜ r ≡ quotaOf kind n ⌝ }
+{
+    Quota { more: one_less(n) }
+}
+
+fn one_less(n: u8) -> u8
+    ensures { λ r. ⌜ r ≡ n - 1 ⌝ }
+{
+    if 0 < n { n - 1 } else { 0 }
+}
+
+fn is_kind(kind: u8) -> bool
+    ensures { λ r. ⌜ r ≡ kindRight kind ⌝ }
+{
+    kind <= 3
+}
+
+fn is_address(address: u8) -> bool
+    ensures { λ r. ⌜ r ≡ addressRight address ⌝ }
+{
+    address <= 127
+}
+
+fn is_count(count: u8) -> bool
+    ensures { λ r. ⌜ r ≡ countRight count ⌝ }
+{
+    if 1 <= count { count <= MOST_MESSAGES } else { false }
+}
+
+// A read of no byte would never get the 1 that ends it.
+fn is_length(kind: u8, n: u8) -> bool
+    ensures { λ r. ⌜ r ≡ lengthRight kind n ⌝ }
+{
+    if is_write(kind) {
+        n <= MOST_LENGTH
+    } else if 1 <= n {
+        n <= MOST_LENGTH
+    } else {
+        false
+    }
+}
+
+// ---- the check
+
+fn break_at(place: usize, rule: Rule) -> Break
+    ensures { λ r. ⌜ r ≡ breaks place rule ⌝ }
+{
+    Break { place, rule }
+}
+
+// The message at a place. A byte that is there is judged before the list is called cut short.
+fn read_one(list: &[u8], at: usize) -> Found
+    requires { ⌜ (at ≤ length (now list)) × (length (now list) ≤ mostBytes) ⌝ }
+    ensures { λ r. ⌜ r ≡ foundAs (messageAt (now (list .entry)) at) ⌝ }
+{
+    if list.len() <= at {
+        return Found::Broken(break_at(list.len(), Rule::CutShort));
+    }
+    let address = list[at];
+    if !is_address(address) {
+        return Found::Broken(break_at(at, Rule::Address));
+    }
+    if list.len() <= at + 1 {
+        return Found::Broken(break_at(list.len(), Rule::CutShort));
+    }
+    let kind = list[at + 1];
+    if !is_kind(kind) {
+        return Found::Broken(break_at(at + 1, Rule::Kind));
+    }
+    if list.len() <= at + 2 {
+        return Found::Broken(break_at(list.len(), Rule::CutShort));
+    }
+    let asked = list[at + 2];
+    if !is_length(kind, asked) {
+        return Found::Broken(break_at(at + 2, Rule::Length));
+    }
+    let next = at + 3 + data_of(kind, asked) as usize;
+    if list.len() < next {
+        return Found::Broken(break_at(list.len(), Rule::CutShort));
+    }
+    Found::Whole {
+        next,
+        slots: 2 + asked_of(kind, asked) as usize,
+    }
+}
+
+// The list from a place on, where it ends or a transaction begins. `area` is the result area's size so far.
+fn transaction(list: &[u8], at: usize, area: usize) -> Checked
+    requires { ⌜ (at ≤ length (now list)) × (length (now list) ≤ mostBytes) × (area ≤ 256 * at) ⌝ }
+    ensures { λ r. ⌜ Tells r area 0 (now (list .entry)) at ⌝ }
+{
+    if list.len() <= at {
+        return Checked::Accepted(area);
+    }
+    let count = list[at];
+    if !is_count(count) {
+        return Checked::Broken(break_at(at, Rule::Count));
+    }
+    if list.len() < at + 3 {
+        return Checked::Broken(break_at(list.len(), Rule::CutShort));
+    }
+    message(list, at + 3, one_less(count), area + 1)
+}
+
+// The list from a place on, where a message stands and `left` more of its transaction after it.
+fn message(list: &[u8], at: usize, left: u8, area: usize) -> Checked
+    requires { ⌜ (at ≤ length (now list)) × (length (now list) ≤ mostBytes) × (area ≤ 256 * at) ⌝ }
+    ensures { λ r. ⌜ Tells r area (suc left) (now (list .entry)) at ⌝ }
+{
+    match read_one(list, at) {
+        Found::Broken(broken) => Checked::Broken(broken),
+        Found::Whole { next, slots } => {
+            if left == 0 {
+                transaction(list, next, area + slots)
+            } else {
+                message(list, next, left - 1, area + slots)
+            }
+        }
+    }
+}
+
+// The whole list.
+pub fn check(list: &[u8]) -> Checked
+    ensures { λ r. ⌜ r ≡ checkOf (now (list .entry)) ⌝ }
+{
+    if MOST_BYTES < list.len() {
+        return Checked::TooLong;
+    }
+    transaction(list, 0, 0)
 }
