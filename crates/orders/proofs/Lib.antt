@@ -3,3 +3,5 @@ pub mod KindLaws
 pub mod OneMessage
 pub mod WholeMessage
 pub mod Cycle
+pub mod PlaceLaws
+pub mod Stands

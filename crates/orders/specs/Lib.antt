@@ -5,3 +5,5 @@ pub mod Asking
 pub mod Results
 pub mod Marks
 pub mod Check
+pub mod Places
+pub mod Start

@@ -6,6 +6,8 @@ ghost use Rattle.orders.specs.Kinds.{mostBytes, isWrite, isCritical, kin
 ghost use Rattle.orders.specs.Form.{breaks, messageAt};
 ghost use Rattle.orders.specs.Results.{checkOf, listNumber};
 ghost use Rattle.orders.specs.Check.{foundAs, Tells};
+ghost use Rattle.orders.specs.Places.{sizeAt, roomAt};
+ghost use Rattle.orders.specs.Start.{zeroed, outcomes, startedOf};
 
 // The most that a list has in bytes, a transaction in messages, a message in bytes written or asked for.
 pub const MOST_BYTES: usize = 4096;
@@ -235,4 +237,92 @@ pub fn check(list: &[u8]) -> Checked
         return Checked::TooLong;
     }
     transaction(list, 0, 0)
+}
+
+// ---- what stands at a place
+
+// The byte at a place, 0 past the list's end.
+pub fn byte_at(list: &[u8], at: usize) -> u8
+    ensures { λ r. ⌜ r ≡ getD (now (list .entry)) at 0 ⌝ }
+{
+    if at < list.len() { list[at] } else { 0 }
+}
+
+// A store that does nothing past the area's end.
+pub fn put_at(area: &mut [u8], at: usize, v: u8)
+    ensures { λ _. ⌜ now (area .exit) ≡ set (now (area .entry)) at v ⌝ }
+{
+    if at < area.len() {
+        area[at] = v;
+    }
+}
+
+// The bytes that the message here takes in the list.
+pub fn size_at(list: &[u8], at: u32) -> usize
+    ensures value { λ r. ⌜ r ≡ sizeAt (now (list .entry)) at ⌝ }
+    ensures small { λ r. ⌜ r < 1024 ⌝ }
+{
+    let kind = byte_at(list, at as usize + 1);
+    let n = byte_at(list, at as usize + 2);
+    3 + data_of(kind, n) as usize
+}
+
+// The places that it has in the result area.
+pub fn room_at(list: &[u8], at: u32) -> usize
+    ensures value { λ r. ⌜ r ≡ roomAt (now (list .entry)) at ⌝ }
+    ensures small { λ r. ⌜ r < 1024 ⌝ }
+{
+    let kind = byte_at(list, at as usize + 1);
+    let n = byte_at(list, at as usize + 2);
+    2 + asked_of(kind, n) as usize
+}
+
+// ---- the start of the result area
+
+fn clear(area: &mut [u8], size: usize)
+    requires { ⌜ size ≤ length (now area) ⌝ }
+    ensures { λ _. ⌜ now (area .exit) ≡ zeroed size (now (area .entry)) ⌝ }
+{
+    let mut i = 0;
+    while i < size {
+        area[i] = 0;
+        i += 1;
+    }
+}
+
+// 255 at each transaction's place: what stays there says that it was never reached.
+fn mark(list: &[u8], area: &mut [u8])
+    requires { ⌜ length (now list) ≤ mostBytes ⌝ }
+    ensures { λ _. ⌜ now (area .exit) ≡ outcomes (suc (length (now (list .entry)))) 0 (now (list .entry)) 0 0 (now (area .entry)) ⌝ }
+{
+    let mut at: usize = 0;
+    let mut top: usize = 0;
+    let mut left: u8 = 0;
+    while at < list.len() {
+        if 0 < left {
+            let place = at as u32;
+            at += size_at(list, place);
+            top += room_at(list, place);
+            left -= 1;
+            continue;
+        }
+        put_at(area, top, 255);
+        left = list[at];
+        at += 3;
+        top += 1;
+    }
+}
+
+// The result area of an accepted list, started: outcomes 255, the rest 0, bytes past `size` as they were.
+pub fn start(list: &[u8], size: usize, area: &mut [u8])
+    ensures { λ _. ⌜ now (area .exit) ≡ startedOf (now (list .entry)) size (now (area .entry)) ⌝ }
+{
+    if area.len() < size {
+        return;
+    }
+    if MOST_BYTES < list.len() {
+        return;
+    }
+    clear(area, size);
+    mark(list, area);
 }
