@@ -1,3 +1,4 @@
 pub mod Table
 pub mod Ladder
 pub mod Moves
+pub mod Walk

@@ -3,6 +3,7 @@ use orders::Quota;
 
 mod symbols;
 mod faults;
+mod places;
 
 // A START is the first of its transaction, or a repeated one.
 pub enum Begin {
