@@ -1,11 +1,10 @@
 -- What the check answers for a list from a place on, a law for each answer: its premises are the tests and what the called function answered.
 -- Assumes nothing.
-use mathlib.Core.Path.{_≡_, refl, ap, sym, _∙_}
+use mathlib.Core.Path.{_≡_, refl, ap, _∙_}
 use mathlib.Core.Bool.{Bool, true, false, cond, not}
 use mathlib.Core.List.{List, []}
 use Prim.Native.Nat.{ℕ, zero, suc, _+_, _-_, _<_, _≤_}
 use native.Mathlib.Nat.{add-zero}
-use native.Mathlib.Numerals.{sub-one}
 use native.Mathlib.Omega.{arith}
 use lib.ListN.{length, getD}
 use lib.Dec.{ltb, leb}
@@ -13,10 +12,10 @@ use Rattle.orders.proofs.KindLaws.{tests}
 use Rattle.orders.proofs.OneMessage.{held, failed}
 use Rattle.orders.proofs.WholeMessage.{told, learnt}
 use Rattle.orders.specs.Kinds.{mostBytes, countRight}
-use Rattle.orders.specs.Form.{Message, Read, whole, broken, breaks, cut, Parsed, right, wrong, after, andMessage, andTransaction, waitAt, beginAt, messageAt, parse, parsed}
+use Rattle.orders.specs.Form.{Message, Read, whole, broken, breaks, cut, Parsed, right, wrong, after, andMessage, andTransaction, waitAt, messageAt, parse, parsed}
 use Rattle.orders.specs.Results.{slotsOf, slotsOfAll, areaOf, checkedAs, checkOf}
 use Rattle.orders.specs.Check.{foundAs, checkedFrom, Tells}
-use Rattle.orders.specs.declared.Rule.the-variants.{CutShort, Count}
+use Rattle.orders.specs.declared.Rule.the-variants.{Count}
 use Rattle.orders.specs.declared.Break.{Break}
 use Rattle.orders.specs.declared.Found.{Found}
 use Rattle.orders.specs.declared.Found.the-variants as found

@@ -1,22 +1,22 @@
--- What the functions on a kind byte and a length byte answer, a law for each answer: the only proofs that open the definitions of Kinds.
--- Assumes nothing.
-use mathlib.Core.Path.{_≡_, refl, sym, ap, _∙_}
+-- What the functions on a kind byte and a length byte answer, and what a right byte says of numbers. No law above these opens a definition of
+-- Kinds. Assumes nothing.
+use mathlib.Core.Path.{_≡_, refl, sym, _∙_}
 use mathlib.Core.Bool.{Bool, true, false, cond, _&&_}
-use Prim.Native.Nat.{ℕ, zero, suc, _-_, _<_, _≤_}
+use Prim.Native.Nat.{ℕ, _-_, _<_, _≤_}
 use native.Mathlib.Omega.{arith}
 use lib.Dec.{leb, leb·zero}
 use borrow.Author.Tests.{lt-ltb, le-ltb, le-leb, lt-leb, eq-eqb, ne-eqb, leb-true}
-use Rattle.orders.specs.Kinds.{isWrite, mostBytes, mostLength, mostMessages, countRight, lengthRight, dataOf, askedOf, quotaOf}
+use Rattle.orders.specs.Kinds.{isWrite, mostBytes, mostLength, mostMessages, countRight, lengthRight, dataOf, askedOf, quotaOf, follow, remain}
 use Rattle.orders.specs.declared.Quota.{Quota}
 
 pub ruleset tests = (lt-ltb, le-ltb, le-leb, lt-leb, eq-eqb, ne-eqb)
 
-pub some-messages : (n : ℕ) → 1 ≤ n → leb n 8 ≡ countRight n
-unfolding countRight mostMessages
+pub some-messages : (n : ℕ) → 1 ≤ n → leb n mostMessages ≡ countRight n
+unfolding countRight
 some-messages n h = simp tests
 
 pub no-messages : (n : ℕ) → n < 1 → false ≡ countRight n
-unfolding countRight mostMessages
+unfolding countRight
 no-messages n h = simp tests
 
 pub quota-left : (kind n m : ℕ) → m ≡ n - 1 → record { more = m } ≡ quotaOf kind n
@@ -43,16 +43,16 @@ module _ (kind n : ℕ) (w : Bool) (e : w ≡ isWrite kind) where
   unfolding askedOf
   all-asked t = rw (is false t)
 
-  pub write-length : w ≡ true → leb n 64 ≡ lengthRight kind n
-  unfolding lengthRight mostLength
+  pub write-length : w ≡ true → leb n mostLength ≡ lengthRight kind n
+  unfolding lengthRight
   write-length t = rw (is true t, leb·zero n)
 
-  pub read-length : w ≡ false → 1 ≤ n → leb n 64 ≡ lengthRight kind n
-  unfolding lengthRight mostLength
+  pub read-length : w ≡ false → 1 ≤ n → leb n mostLength ≡ lengthRight kind n
+  unfolding lengthRight
   read-length t h = rw (is false t, le-leb 1 n h)
 
   pub empty-read : w ≡ false → n < 1 → false ≡ lengthRight kind n
-  unfolding lengthRight mostLength
+  unfolding lengthRight
   empty-read t h = rw (is false t, lt-leb 1 n h)
 
 -- ---- what a byte that is right says of numbers
@@ -61,13 +61,17 @@ pub most-bytes : mostBytes ≤ 65536
 unfolding mostBytes
 most-bytes = omega arith
 
-both : (a b : Bool) → a && b ≡ true → b ≡ true
-both true b e = e
+both : (a b : Bool) → a && b ≡ true → (a ≡ true) × (b ≡ true)
+both true b e = (refl, e)
 both false b e = let z : _≡_ {A = ℕ} 0 1 = cc in absurd (omega arith)
+
+pub some-message : (n : ℕ) → countRight n ≡ true → 1 ≤ n
+unfolding countRight
+some-message n e = leb-true _ _ (both (leb 1 n) (leb n mostMessages) e .0)
 
 pub short-length : (kind n : ℕ) → lengthRight kind n ≡ true → n ≤ 255
 unfolding lengthRight mostLength
-short-length kind n e = let h : n ≤ 64 = leb-true _ _ (both (leb (cond (isWrite kind) 0 1) n) (leb n 64) e) in omega arith
+short-length kind n e = let h : n ≤ mostLength = leb-true _ _ (both (leb (cond (isWrite kind) 0 1) n) (leb n mostLength) e .1) in omega arith
 
 pub few-asked : (kind n : ℕ) → lengthRight kind n ≡ true → askedOf kind n ≤ 255
 unfolding askedOf
@@ -76,3 +80,15 @@ few-asked kind n e = cases (isWrite kind) (short-length kind n e)
     cases : (w : Bool) → n ≤ 255 → cond w 0 n ≤ 255
     cases true h = omega arith
     cases false h = omega arith
+
+-- a read that is right asks for at least the byte that gets the 1
+pub some-asked : (kind n : ℕ) → lengthRight kind n ≡ true → isWrite kind ≡ false → 1 ≤ n
+unfolding lengthRight
+some-asked kind n e w =
+    let h : cond (isWrite kind) 0 1 ≤ n = leb-true _ _ (both (leb (cond (isWrite kind) 0 1) n) (leb n mostLength) e .0) in
+    rw w at h
+
+-- what remains follows, whatever byte came
+pub follow-remain : (q : Quota) (n x : ℕ) → follow (remain q n) x ≡ n
+unfolding follow remain
+follow-remain q n x = refl

@@ -1,7 +1,10 @@
--- What the proofs of several functions use, and what the crates above cite.
+-- What the proofs of several functions use, and what the crates above cite: Stands, Round, Starts, and the laws of one message and of kinds.
 pub mod KindLaws
 pub mod OneMessage
 pub mod WholeMessage
 pub mod Cycle
-pub mod PlaceLaws
 pub mod Stands
+pub mod Round
+pub mod PlaceLaws
+pub mod StartTurns
+pub mod Starts

@@ -1,20 +1,17 @@
 -- What stands at a place where a message is due, a law for each answer: its premises are the tests in the order of the definition, as the code
--- makes them. Then what a whole message says of the list. Assumes nothing.
-use mathlib.Core.Path.{_≡_, refl, sym, _∙_}
-use mathlib.Core.Bool.{Bool, true, false, cond, not}
+-- makes them. Assumes nothing.
+use mathlib.Core.Path.{_≡_, sym, _∙_}
+use mathlib.Core.Bool.{Bool, true, false, not}
 use mathlib.Core.List.{List}
 use Prim.Native.Nat.{ℕ, _+_, _<_, _≤_}
-use native.Mathlib.Omega.{arith}
-use lib.ListN.{length, getD, take, drop}
-use lib.Dec.{ltb, leb}
-use borrow.Author.Tests.{ltb-true, leb-true, not-true, not-false}
+use lib.ListN.{length, getD}
+use borrow.Author.Tests.{not-true, not-false}
 use Rattle.orders.proofs.KindLaws.{tests}
 use Rattle.orders.specs.Kinds.{addressRight, kindRight, lengthRight, dataOf, askedOf}
-use Rattle.orders.specs.Form.{Message, Read, whole, broken, breaks, cut, messageAt}
+use Rattle.orders.specs.Form.{breaks, cut, messageAt}
 use Rattle.orders.specs.Check.{foundAs}
-use Rattle.orders.specs.declared.Rule.the-variants.{CutShort, Address, Kind, Length}
+use Rattle.orders.specs.declared.Rule.the-variants.{Address, Kind, Length}
 use Rattle.orders.specs.declared.Break.{Break}
-use Rattle.orders.specs.declared.Found.{Found}
 use Rattle.orders.specs.declared.Found.the-variants.{Whole, Broken}
 
 -- a function's answer x to a test t, and which way the code went on it

@@ -2,17 +2,19 @@
 use mathlib.Core.Path.{_≡_, refl, ap, sym, _∙_}
 use mathlib.Core.Bool.{Bool, true, false, cond}
 use mathlib.Core.List.{List, [], _∷_}
-use Prim.Native.Nat.{ℕ, zero, suc, _+_, _-_, _<_, _≤_}
+use Prim.Native.Nat.{ℕ, zero, suc, _+_, _-_, _*_, _<_, _≤_}
 use native.Mathlib.Omega.{arith}
 use lib.ListN.{length, getD}
 use lib.Dec.{ltb, leb}
 use borrow.Author.Tests.{ltb-false, leb-true}
 use Rattle.orders.proofs.KindLaws.{tests}
-use Rattle.orders.proofs.WholeMessage.{message-inv}
-use Rattle.orders.specs.Kinds.{countRight}
-use Rattle.orders.specs.Form.{Message, Transaction, Read, whole, broken, breaks, cut, Parsed, right, wrong, after, andMessage, andTransaction, waitAt, beginAt, messageAt, parse, parsed}
+use Rattle.orders.proofs.WholeMessage.{message-inv, message-slots}
+use Rattle.orders.specs.Kinds.{mostBytes, countRight}
+use Rattle.orders.specs.Form.{Message, Transaction, Read, whole, broken, breaks, cut, Parsed, right, wrong, after, andMessage, andTransaction, waitAt, beginAt, messageAt, parse, parsed, transactionsOf}
 use Rattle.orders.specs.Places.{Stands, ended, begins, follows}
+use Rattle.orders.specs.Results.{slotsOfAll, areaOf, checkedAs, checkOf}
 use Rattle.orders.specs.declared.Rule.the-variants.{Count}
+use Rattle.orders.specs.declared.Checked.the-variants.{Accepted, TooLong}
 
 -- ---- what is read stands there
 
@@ -99,3 +101,45 @@ parsed-stands s ms ts e = parse-stands (suc (length s)) 0 s 0 ms ts e
 pub stands-parsed : {s : List ℕ} {ts : List Transaction} → Stands s 0 [] ts → parsed s ≡ right [] ts
 unfolding parsed
 stands-parsed {s} st = stands-parse st (suc (length s)) (omega arith)
+
+-- the area takes few places for the bytes that the list has
+pub stands-area : {s : List ℕ} {p : ℕ} {ms : List Message} {ts : List Transaction} → Stands s p ms ts → slotsOfAll ms + areaOf ts ≤ 256 * (length s - p)
+unfolding slotsOfAll areaOf
+stands-area (ended l) = omega arith
+stands-area {s} (follows {p} {q} {m} i st) =
+    let r = stands-area st in
+    let is = message-inv s p m q i in
+    let next = is .next in
+    let room = is .room in
+    let few = message-slots s p m q i in
+    omega arith
+stands-area {s} (begins {p} {q} {m} l c k i st) =
+    let r = stands-area st in
+    let is = message-inv s (p + 3) m q i in
+    let next = is .next in
+    let room = is .room in
+    let few = message-slots s (p + 3) m q i in
+    omega arith
+
+-- ---- what an accepted list is
+
+pub record Holds (s : List ℕ) (r : ℕ) : Type 0 where
+  pub short : length s ≤ mostBytes
+  pub area : r ≡ areaOf (transactionsOf s)
+  pub small : r ≤ 256 * length s
+  -- each message at its place
+  pub stands : Stands s 0 [] (transactionsOf s)
+
+pub holds : (s : List ℕ) (r : ℕ) → checkOf s ≡ Accepted r → Holds s r
+unfolding checkOf transactionsOf slotsOfAll
+holds s r e = cases (ltb mostBytes (length s)) refl (parsed s) refl e
+  where
+    cases : (b : Bool) → ltb mostBytes (length s) ≡ b → (x : Parsed) → parsed s ≡ x → cond b TooLong (checkedAs x) ≡ Accepted r → Holds s r
+    cases true be x xe e = let z : _≡_ {A = ℕ} 0 1 = cc in absurd (omega arith)
+    cases false be (wrong k) xe e = let z : _≡_ {A = ℕ} 0 1 = cc in absurd (omega arith)
+    cases false be (right (m ∷ ms) ts) xe e = let n = parsed-stands s (m ∷ ms) ts xe .count in absurd (omega arith)
+    cases false be (right [] ts) xe e =
+        let st = parsed-stands s [] ts xe .stands in
+        let a : r ≡ areaOf ts = cc in
+        let b = stands-area st in
+        record { short = ltb-false _ _ be; area = rw xe a; small = omega arith; stands = rw xe st }

@@ -5,12 +5,14 @@ use mathlib.Core.List.{List}
 use Prim.Native.Nat.{ℕ, _+_, _<_, _≤_}
 use native.Mathlib.Omega.{arith}
 use lib.ListN.{length, getD, take, drop}
+use lib.Seq.{getD-take, getD-drop}
 use lib.Dec.{ltb, leb}
 use borrow.Author.Tests.{ltb-true, leb-true}
 use Rattle.orders.proofs.KindLaws.{few-asked}
 use Rattle.orders.specs.Kinds.{addressRight, kindRight, lengthRight, dataOf}
 use Rattle.orders.specs.Form.{Message, Read, whole, broken, breaks, cut, messageAt}
 use Rattle.orders.specs.Results.{slotsOf}
+use Rattle.orders.specs.Places.{sizeAt, roomAt}
 use Rattle.orders.specs.Check.{foundAs}
 use Rattle.orders.specs.declared.Rule.{Rule}
 use Rattle.orders.specs.declared.Break.{Break}
@@ -61,7 +63,27 @@ module _ (s : List ℕ) (p : ℕ) (m : Message) (q : ℕ) where
           let qe : p + 3 + dataOf (getD s (p + 1) 0) (getD s (p + 2) 0) ≡ q = cc in
           rw (← me, ← qe) (record { address = refl; kind = refl; asked = refl; sent = refl; next = refl; room = leb-true _ _ x; address-right = a; kind-right = k; length-right = n })
 
--- what the code learns of a whole message: the place after it lies further on, and its slots are few for the bytes that it takes
+-- ---- whoever goes along the list by places finds the message as it is read
+
+module _ (s : List ℕ) (p : ℕ) (m : Message) (q : ℕ) (e : messageAt s p ≡ whole m q) where
+  pub message-size : p + sizeAt s p ≡ q
+  message-size = let i = message-inv s p m q e in let next = i .next in rw (i .kind, i .asked) (omega arith)
+
+  pub message-room : roomAt s p ≡ slotsOf m
+  message-room = let i = message-inv s p m q e in rw (i .kind, i .asked)
+
+  pub message-below : p < length s
+  message-below = let i = message-inv s p m q e in let next = i .next in let room = i .room in omega arith
+
+  pub message-sent : (j : ℕ) → j < dataOf (m .kind) (m .asked) → getD (m .sent) j 0 ≡ getD s (p + 3 + j) 0
+  message-sent j h = let i = message-inv s p m q e in rw (← i .sent, getD-take, getD-drop)
+
+  pub message-slots : slotsOf m ≤ 257
+  message-slots = let i = message-inv s p m q e in let f = few-asked (m .kind) (m .asked) (i .length-right) in omega arith
+
+-- ---- what the code learns
+
+-- of a whole message: the place after it lies further on, and its slots are few for the bytes that it takes
 pub record Learnt (s : List ℕ) (p q n : ℕ) : Type 0 where
   pub message : Message
   pub is : messageAt s p ≡ whole message q
@@ -80,7 +102,7 @@ module _ (s : List ℕ) (p : ℕ) (x : Found) (e : x ≡ foundAs (messageAt s p)
           let ne : n ≡ slotsOf m = cc in
           let is = message-inv s p m q′ i in
           let next = is .next in
-          let f = few-asked (m .kind) (m .asked) (is .length-right) in
+          let f = message-slots s p m q′ i in
           record { message = m; is = cc; slots = ne; few = omega arith; later = omega arith; room = omega arith }
       cases (broken b) i e = let z : _≡_ {A = ℕ} 0 1 = cc in absurd (omega arith)
 

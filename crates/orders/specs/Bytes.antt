@@ -4,9 +4,13 @@ use Prim.Native.Nat.{ℕ, suc, _/_, _%_, _<_}
 use mathlib.Core.Path.{_≡_}
 use mathlib.Core.Bool.{true}
 use mathlib.Core.List.{List, [], _∷_, _++_}
-use lib.ListN.{length}
+use lib.ListN.{length, getD}
 use Rattle.orders.specs.Kinds.{addressRight, kindRight, lengthRight, countRight, dataOf}
 use Rattle.orders.specs.Form.{Message, Transaction}
+
+-- what a lent slice is
+unfoldable pub Bytes : List ℕ → Type 0
+Bytes s = (i : ℕ) → getD s i 0 < 256
 
 abbrev pub messageBytes : Message → List ℕ
 messageBytes m = m .address ∷ m .kind ∷ m .asked ∷ m .sent

@@ -1,7 +1,7 @@
 -- The result area: its size R, how it starts, and where each message's results stand; what the check of a list says (paper 01, "Order lists and
 -- their results", "When the desk says no"). Assumes nothing.
-use Prim.Native.Nat.{ℕ, zero, suc, _+_}
-use mathlib.Core.Bool.{Bool, cond}
+use Prim.Native.Nat.{ℕ, _+_}
+use mathlib.Core.Bool.{cond}
 use mathlib.Core.List.{List, [], _∷_, _++_}
 use lib.Dec.{ltb}
 use lib.ListN.{length, drop, replicate}

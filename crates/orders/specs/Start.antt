@@ -12,12 +12,12 @@ abbrev pub zeroed : ℕ → List ℕ → List ℕ
 zeroed size lent = replicate size 0 ++ drop size lent
 
 -- `left` messages of a transaction are still to come at the place `at`; `top` is the place in the area
-unfoldable pub outcomes : (steps left : ℕ) → List ℕ → (at top : ℕ) → List ℕ → List ℕ
-outcomes zero left s at top a = a
-outcomes (suc n) zero s at top a = let r : List ℕ = outcomes n (getD s at 0) s (at + 3) (top + 1) (set a top 255) in cond (ltb at (length s)) r a
-outcomes (suc n) (suc left) s at top a = let r : List ℕ = outcomes n left s (at + sizeAt s at) (top + roomAt s at) a in cond (ltb at (length s)) r a
+unfoldable pub outcomesFrom : (steps left : ℕ) → List ℕ → (at top : ℕ) → List ℕ → List ℕ
+outcomesFrom zero left s at top a = a
+outcomesFrom (suc n) zero s at top a = let r : List ℕ = outcomesFrom n (getD s at 0) s (at + 3) (top + 1) (set a top 255) in cond (ltb at (length s)) r a
+outcomesFrom (suc n) (suc left) s at top a = let r : List ℕ = outcomesFrom n left s (at + sizeAt s at) (top + roomAt s at) a in cond (ltb at (length s)) r a
 
 -- an area that is too small, and one for a list that is too long, is left alone
 unfoldable pub startedOf : List ℕ → ℕ → List ℕ → List ℕ
 startedOf s size lent =
-    let r : List ℕ = outcomes (suc (length s)) 0 s 0 0 (zeroed size lent) in cond (ltb (length lent) size) lent (cond (ltb mostBytes (length s)) lent r)
+    let r : List ℕ = outcomesFrom (suc (length s)) 0 s 0 0 (zeroed size lent) in cond (ltb (length lent) size) lent (cond (ltb mostBytes (length s)) lent r)

@@ -7,7 +7,7 @@ ghost use Rattle.orders.specs.Form.{breaks, messageAt};
 ghost use Rattle.orders.specs.Results.{checkOf, listNumber};
 ghost use Rattle.orders.specs.Check.{foundAs, Tells};
 ghost use Rattle.orders.specs.Places.{sizeAt, roomAt};
-ghost use Rattle.orders.specs.Start.{zeroed, outcomes, startedOf};
+ghost use Rattle.orders.specs.Start.{zeroed, outcomesFrom, startedOf};
 
 // The most that a list has in bytes, a transaction in messages, a message in bytes written or asked for.
 pub const MOST_BYTES: usize = 4096;
@@ -134,7 +134,11 @@ fn is_address(address: u8) -> bool
 fn is_count(count: u8) -> bool
     ensures { λ r. ⌜ r ≡ countRight count ⌝ }
 {
-    if 1 <= count { count <= MOST_MESSAGES } else { false }
+    if 1 <= count {
+        count <= MOST_MESSAGES
+    } else {
+        false
+    }
 }
 
 // A read of no byte would never get the 1 that ends it.
@@ -291,9 +295,9 @@ fn clear(area: &mut [u8], size: usize)
 }
 
 // 255 at each transaction's place: what stays there says that it was never reached.
-fn mark(list: &[u8], area: &mut [u8])
+fn outcomes(list: &[u8], area: &mut [u8])
     requires { ⌜ length (now list) ≤ mostBytes ⌝ }
-    ensures { λ _. ⌜ now (area .exit) ≡ outcomes (suc (length (now (list .entry)))) 0 (now (list .entry)) 0 0 (now (area .entry)) ⌝ }
+    ensures { λ _. ⌜ now (area .exit) ≡ outcomesFrom (suc (length (now (list .entry)))) 0 (now (list .entry)) 0 0 (now (area .entry)) ⌝ }
 {
     let mut at: usize = 0;
     let mut top: usize = 0;
@@ -324,5 +328,5 @@ pub fn start(list: &[u8], size: usize, area: &mut [u8])
         return;
     }
     clear(area, size);
-    mark(list, area);
+    outcomes(list, area);
 }

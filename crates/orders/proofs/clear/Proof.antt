@@ -4,7 +4,7 @@ use Prim.Native.Nat.{_-_, _≤_}
 use lib.ListN.{length}
 use borrow.Author.Needs.{needs}
 use Rattle.orders.specs.Start.{zeroed}
-use Rattle.orders.proofs.PlaceLaws.{zero-turn, zero-ends}
+use Rattle.orders.proofs.StartTurns.{zero-turn, zero-ends}
 use Rattle.orders.proofs.clear.Statement.{statement}
 use Rattle.orders.proofs.clear.Tie as tie
 

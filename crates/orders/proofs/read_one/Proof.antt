@@ -15,8 +15,8 @@ read-one-spec =
     (λ c. search needs) (λ c κs. search needs) (λ c. search needs) (λ c. search needs) (λ c κs. search needs) (λ c. search no-data)
     (λ c κs. search needs) (λ c. search needs) (λ c. search needs)
     (λ c.
-        let l = c .before .before .before .before in
-        let k = l .before .before .before .before in
-        let a = k .before .before .before .before in
-        whole-message _ _ (search needs) _ (a .is-address .ensures) (search needs) (search needs) _ (k .is-kind .ensures) (search needs) (search needs)
-        _ (l .is-length .ensures) (search needs) _ (search needs) _ (search needs) (search needs)))
+    let l = c .before .before .before .before in
+    let k = l .before .before .before .before in
+    let a = k .before .before .before .before in
+    whole-message _ _ (search needs) _ (a .is-address .ensures) (search needs) (search needs) _ (k .is-kind .ensures) (search needs) (search needs)
+    _ (l .is-length .ensures) (search needs) _ (search needs) _ (search needs) (search needs)))
