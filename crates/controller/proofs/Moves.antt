@@ -1,15 +1,22 @@
 -- A tick without a fault, by the phase that the code has found. Assumes nothing.
 use Prim.Native.Nat.{ℕ, zero, suc, _+_, _-_, _≤_, _<_}
 use mathlib.Core.Path.{_≡_, refl, _∙_, sym, ap}
-use mathlib.Core.Bool.{Bool, true, false, cond}
+use mathlib.Core.Bool.{Bool, true, false, cond, true≢false}
+use mathlib.Core.List.{List}
 use native.Mathlib.Omega.{arith}
 use native.Mathlib.Numerals.{add-one}
 use borrow.Author.Tests.{leb-false}
 use lib.Dec.{leb}
+use lib.ListN.{set}
 use Rattle.lines.specs.Levels.{mostHeld}
 use Rattle.lines.specs.declared.Lines.{Lines}
 use Rattle.controller.specs.Symbols.{row, drives}
-use Rattle.controller.specs.Faults.{isBroken, isTaken, isStuck, faultOf, isClear}
+use Rattle.orders.specs.Marks.{note}
+use Rattle.controller.specs.Faults.{isBroken, isTaken, isStuck, faultOf, outcomeOf, isClear}
+use Rattle.controller.specs.Ticks.{Plan, enter, Control, inPhase, move, controlTick}
+use Rattle.controller.specs.Cursor.{nowhere, opensAt, stepOf, noteOf, askOf, Spot, places, controlOf, firstOf}
+use Rattle.controller.specs.declared.Cursor.{Cursor}
+use Rattle.controller.specs.declared.Controller.{Controller}
 use Rattle.controller.specs.Moves.{isLast, phaseAfter}
 use Rattle.controller.specs.declared.Begin.the-variants.{First}
 use Rattle.controller.specs.declared.Symbol.{Symbol}
@@ -64,3 +71,66 @@ pub room-to-hold : (s : Symbol) (n : ℕ) (p : Bool) (l : Lines) (ph : Phase) �
 unfolding mostHeld
 room-to-hold s n p l ph e low h = let g : leb 16 n ≡ false = rw (e, low) at (clear-running ph p l h) in
     let k : n < 16 = leb-false _ _ g in omega arith
+
+pub clear-is : (f : Fault) (b : Bool) → b ≡ isClear f → b ≡ true → f ≡ Clear
+clear-is Clear b e h = refl
+clear-is DataLost b e h = let z : _≡_ {A = ℕ} 0 1 = cc in absurd (omega arith)
+clear-is ClockStuck b e h = let z : _≡_ {A = ℕ} 0 1 = cc in absurd (omega arith)
+clear-is Undefined b e h = let z : _≡_ {A = ℕ} 0 1 = cc in absurd (omega arith)
+clear-is NotFree b e h = let z : _≡_ {A = ℕ} 0 1 = cc in absurd (omega arith)
+clear-is LineBroken b e h = let z : _≡_ {A = ℕ} 0 1 = cc in absurd (omega arith)
+
+-- the two parts of a move, whatever the plan
+module _ (Q : Plan) (l : Lines) (c : Control (Q .State)) where
+  pub move-inside : (ph : Phase) → isLast ph ≡ false → move Q ph l c ≡ inPhase Q (phaseAfter ph l) c
+  move-inside (Over f) h = refl
+  move-inside (Waiting zero) h = refl
+  move-inside (Waiting (suc n)) h = refl
+  move-inside (Zero s) h = refl
+  move-inside (One s) h = refl
+  move-inside (Two s n) h = refl
+  move-inside (Three s w) h = absurd (true≢false h)
+
+  abbrev ended : Phase → Control (Q .State)
+  ended ph =
+      record { phase = enter (Q .ask (Q .next (c .plan) (l .sda))); was = drives ph (c .was) .sda; plan = Q .next (c .plan) (l .sda) }
+
+  pub move-last : (ph : Phase) → isLast ph ≡ true → move Q ph l c ≡ ended ph
+  move-last (Over f) h = absurd (true≢false (sym h))
+  move-last (Waiting n) h = absurd (true≢false (sym h))
+  move-last (Zero s) h = absurd (true≢false (sym h))
+  move-last (One s) h = absurd (true≢false (sym h))
+  move-last (Two s n) h = absurd (true≢false (sym h))
+  move-last (Three s w) h = refl
+
+-- the tick in the code's words
+module _ (list : List ℕ) (l : Lines) (c : Controller) (a : List ℕ) (f : Fault) (b : Bool) (seen : f ≡ faultOf (c .phase) (c .was) l) (tested : b ≡ isClear f) where
+  pub needs-clear : b ≡ true → faultOf (c .phase) (c .was) l ≡ Clear
+  needs-clear h = sym seen ∙ clear-is f b tested h
+
+  settles : b ≡ true → controlTick (places list) l (controlOf c a) ≡ move (places list) (c .phase) l (controlOf c a)
+  unfolding controlTick
+  settles h = rw (needs-clear h)
+
+  module _ (h : b ≡ true) (x : Bool) (asked : x ≡ isLast (c .phase)) where
+    pub ticks-inside : (ph : Phase) → x ≡ false → ph ≡ phaseAfter (c .phase) l
+        → _≡_ {A = Control Spot} (controlOf (record { phase = ph; was = c .was; cursor = c .cursor }) a) (controlTick (places list) l (controlOf c a))
+    ticks-inside ph n e =
+        let g : isLast (c .phase) ≡ false = sym asked ∙ n in
+        sym (settles h ∙ move-inside (places list) l (controlOf c a) (c .phase) g ∙ ap (λ (p : Phase). inPhase (places list) p (controlOf c a)) (sym e))
+
+    pub ticks-last : (ph : Phase) (a′ : List ℕ) (d : Cursor) (m : Lines) → x ≡ true → a′ ≡ noteOf list (l .sda) (c .cursor) (record { area = a }) .area
+        → d ≡ stepOf list (l .sda) (c .cursor) → ph ≡ enter (askOf list d) → m ≡ drives (c .phase) (c .was)
+        → _≡_ {A = Control Spot} (controlOf (record { phase = ph; was = m .sda; cursor = d }) a′) (controlTick (places list) l (controlOf c a))
+    ticks-last ph a′ d m n e g k i =
+        let o : isLast (c .phase) ≡ true = sym asked ∙ n in
+        rw (k, e, g, i) (sym (settles h ∙ move-last (places list) l (controlOf c a) (c .phase) o))
+
+  pub ticks-over : (a′ : List ℕ) (d : Cursor) (n : ℕ) → b ≡ false → n ≡ outcomeOf f → a′ ≡ set a (c .cursor .top) n → d ≡ nowhere
+      → _≡_ {A = Control Spot} (controlOf (record { phase = Over f; was = true; cursor = d }) a′) (controlTick (places list) l (controlOf c a))
+  unfolding controlTick note
+  ticks-over a′ d n h e g k = let i : isClear f ≡ false = sym tested ∙ h in rw (← seen, i, k, g, e)
+
+pub first-is : (list : List ℕ) (d : Cursor) (ph : Phase) → d ≡ opensAt list 0 0 → ph ≡ enter (askOf list d)
+    → _≡_ {A = Controller} (record { phase = ph; was = true; cursor = d }) (firstOf list)
+first-is list d ph e f = rw (f, e)

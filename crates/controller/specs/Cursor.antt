@@ -6,14 +6,14 @@ use mathlib.Core.Bool.{Bool, not, cond}
 use mathlib.Core.List.{List}
 use lib.Dec.{eqb, ltb}
 use lib.ListN.{length, getD}
-use Rattle.lines.specs.Levels.{bitAt, shifted}
+use Rattle.lines.specs.Levels.{hi, bitAt, shifted}
 use Rattle.orders.specs.Kinds.{isWrite, isCritical, quotaOf, follow, remain}
 use Rattle.orders.specs.Form.{waitAt}
 use Rattle.orders.specs.Places.{sizeAt, roomAt}
 use Rattle.orders.specs.Marks.{heard, written, closed, broke, readMark, Log, note}
 use Rattle.orders.specs.declared.Quota.{Quota}
 use Rattle.controller.specs.Faults.{outcomeOf}
-use Rattle.controller.specs.Ticks.{Ask, first, clocked, end, Plan, Control}
+use Rattle.controller.specs.Ticks.{Ask, first, clocked, end, Plan, enter, Control}
 use Rattle.controller.specs.declared.Begin.the-variants.{Repeated}
 use Rattle.controller.specs.declared.Symbol.the-variants.{Start, Stop, Sent, Received}
 use Rattle.controller.specs.declared.Act.{Act}
@@ -172,3 +172,7 @@ places list =
 -- the code's state and the result area, in the words of the tick rules
 abbrev pub controlOf : Controller → List ℕ → Control Spot
 controlOf c area = record { phase = c .phase; was = c .was; plan = record { cursor = c .cursor; log = record { area = area } } }
+
+-- at the list's first transaction
+abbrev pub firstOf : List ℕ → Controller
+firstOf list = record { phase = enter (askOf list (opensAt list 0 0)); was = hi; cursor = opensAt list 0 0 }

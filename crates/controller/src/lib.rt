@@ -1,4 +1,11 @@
 // The controller: the symbols that it drives, the faults that it sees, and its way through an order list.
+ghost use mathlib.Core.Path.{_≡_};
+ghost use Rattle.controller.specs.Symbols.{drives, isOver};
+ghost use Rattle.controller.specs.Ticks.{controlTick};
+ghost use Rattle.controller.specs.Cursor.{places, controlOf, firstOf};
+
+use lines::Lines;
+use lines::put_at;
 use orders::Quota;
 
 mod symbols;
@@ -99,4 +106,68 @@ pub struct Told {
     pub number: u8,
     pub end: End,
     pub ticks: usize,
+}
+
+impl Controller {
+    // At the list's first transaction.
+    pub fn first(list: &[u8]) -> Controller
+        ensures { λ r. ⌜ r ≡ firstOf (now (list .entry)) ⌝ }
+    {
+        let cursor = Cursor::opens_at(list, 0, 0);
+        let phase = cursor.enter(list);
+        Controller {
+            phase,
+            was: true,
+            cursor,
+        }
+    }
+
+    // What it drives, by its state alone.
+    pub fn drive(self) -> Lines
+        ensures { λ r. ⌜ r ≡ drives (self .phase) (self .was) ⌝ }
+    {
+        let phase = self.phase;
+        phase.drive(self.was)
+    }
+
+    pub fn is_over(self) -> bool
+        ensures { λ r. ⌜ r ≡ isOver (self .phase) ⌝ }
+    {
+        let phase = self.phase;
+        phase.is_over()
+    }
+
+    // One tick, in which the lines are seen. Results are written where a ninth symbol or a STOP ends, and where a fault is seen: a byte that is noted
+    // earlier would be noted twice if the symbol then fails.
+    pub fn tick(self, seen: Lines, list: &[u8], area: &mut [u8]) -> Controller
+        ensures { λ r. ⌜ controlOf r (now (area .exit)) ≡ controlTick (places (now (list .entry))) seen (controlOf self (now (area .entry))) ⌝ }
+    {
+        let phase = self.phase;
+        let was = self.was;
+        let cursor = self.cursor;
+        let fault = phase.fault(was, seen);
+        if fault.is_clear() {
+            if phase.is_last() {
+                cursor.note(list, seen.sda, area);
+                let next = cursor.step(list, seen.sda);
+                let drive = phase.drive(was);
+                return Controller {
+                    phase: next.enter(list),
+                    was: drive.sda,
+                    cursor: next,
+                };
+            }
+            return Controller {
+                phase: phase.after(was, seen),
+                was,
+                cursor,
+            };
+        }
+        put_at(area, cursor.top as usize, fault.outcome());
+        Controller {
+            phase: Phase::Over(fault),
+            was: true,
+            cursor: Cursor::nowhere(),
+        }
+    }
 }
