@@ -2,3 +2,5 @@ pub mod Table
 pub mod Ladder
 pub mod Moves
 pub mod Walk
+pub mod Matches
+pub mod Simulation
