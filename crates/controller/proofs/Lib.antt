@@ -4,3 +4,5 @@ pub mod Moves
 pub mod Walk
 pub mod Matches
 pub mod Simulation
+pub mod Record
+pub mod Entry

@@ -10,10 +10,10 @@ use lib.Dec.{leb}
 use lib.ListN.{set}
 use Rattle.lines.specs.Levels.{mostHeld}
 use Rattle.lines.specs.declared.Lines.{Lines}
-use Rattle.controller.specs.Symbols.{row, drives}
+use Rattle.controller.specs.Symbols.{row, drives, isOver}
 use Rattle.orders.specs.Marks.{note}
 use Rattle.controller.specs.Faults.{isBroken, isTaken, isStuck, faultOf, outcomeOf, isClear}
-use Rattle.controller.specs.Ticks.{Plan, enter, Control, inPhase, move, controlTick}
+use Rattle.controller.specs.Ticks.{Plan, enter, Control, inPhase, move, settle, controlTick}
 use Rattle.controller.specs.Cursor.{nowhere, opensAt, stepOf, noteOf, askOf, Spot, places, controlOf, firstOf}
 use Rattle.controller.specs.declared.Cursor.{Cursor}
 use Rattle.controller.specs.declared.Controller.{Controller}
@@ -102,6 +102,22 @@ module _ (Q : Plan) (l : Lines) (c : Control (Q .State)) where
   move-last (One s) h = absurd (true≢false (sym h))
   move-last (Two s n) h = absurd (true≢false (sym h))
   move-last (Three s w) h = refl
+
+-- a controller at its end stays there
+module _ (Q : Plan) (l : Lines) where
+  pub stays : (c : Control (Q .State)) → isOver (c .phase) ≡ true → controlTick Q l c ≡ c
+  unfolding controlTick faultOf
+  stays c h = go (c .phase) h
+    where
+      at : Phase → Control (Q .State)
+      at ph = record { phase = ph; was = c .was; plan = c .plan }
+      go : (ph : Phase) → isOver ph ≡ true → settle Q (faultOf ph (c .was) l) l (at ph) ≡ at ph
+      go (Over f) k = refl
+      go (Waiting n) k = absurd (true≢false (sym k))
+      go (Zero s) k = absurd (true≢false (sym k))
+      go (One s) k = absurd (true≢false (sym k))
+      go (Two s n) k = absurd (true≢false (sym k))
+      go (Three s w) k = absurd (true≢false (sym k))
 
 -- the tick in the code's words
 module _ (list : List ℕ) (l : Lines) (c : Controller) (a : List ℕ) (f : Fault) (b : Bool) (seen : f ≡ faultOf (c .phase) (c .was) l) (tested : b ≡ isClear f) where
