@@ -1,0 +1,10 @@
+use borrow.Author.Needs.{needs}
+use Rattle.controller.proofs.Walk.{address-is}
+use Rattle.controller.proofs.Cursor.address.Statement.{statement}
+use Rattle.controller.proofs.Cursor.address.Tie as tie
+
+pub address-spec : {M : Type 1} → statement M
+address-spec =
+    tie.close (tie.spec
+    (λ c. search needs) (λ c. search needs) (λ c κs. search needs) (λ c κs. search needs) (λ c κs. search needs)
+    (λ c κs. search needs) (λ c. search (address-is)))

@@ -1,0 +1,11 @@
+use borrow.Author.Needs.{needs}
+use Rattle.controller.proofs.Walk.{is-write, is-read}
+use Rattle.controller.proofs.Cursor.carries_out.Statement.{statement}
+use Rattle.controller.proofs.Cursor.carries_out.Tie as tie
+
+pub carries-out-spec : {M : Type 1} → statement M
+carries-out-spec =
+    tie.close (tie.spec
+    (λ c. search needs) (λ c. search needs) (λ c κs. search needs) (λ c. search needs) (λ c κs. search needs)
+    (λ c κs. search needs) (λ c κs. search needs) (λ c κs. search needs) (λ c κs. search needs)
+    (λ c. search (is-write, is-read)) (λ c. search (is-write, is-read)))

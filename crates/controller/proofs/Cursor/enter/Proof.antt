@@ -1,0 +1,22 @@
+use borrow.Author.Needs.{needs}
+use Rattle.controller.proofs.Walk.{enters, enters-at-once, enters-wait, enters-address, enters-data, enters-answer}
+use Rattle.controller.proofs.Cursor.enter.Statement.{statement}
+use Rattle.controller.proofs.Cursor.enter.Tie as tie
+
+pub enter-spec : {M : Type 1} → statement M
+enter-spec =
+    tie.close (tie.spec
+    (λ c. search needs) (λ c. search needs) (λ c. search needs) (λ c. search needs) (λ c. search needs) (λ c. search needs)
+    (λ c κs. search needs) (λ c κs. search needs) (λ c. search needs) (λ c. search needs) (λ c κs. search needs)
+    (λ c κs. search needs) (λ c. search needs) (λ c. search needs) (λ c. search needs) (λ c κs. search needs)
+    (λ c. search (enters, enters-at-once, enters-wait, enters-address, enters-data, enters-answer))
+    (λ c. search (enters, enters-at-once, enters-wait, enters-address, enters-data, enters-answer))
+    (λ c. search (enters, enters-at-once, enters-wait, enters-address, enters-data, enters-answer))
+    (λ c. search (enters, enters-at-once, enters-wait, enters-address, enters-data, enters-answer))
+    (λ c. search (enters, enters-at-once, enters-wait, enters-address, enters-data, enters-answer))
+    (λ c. search (enters, enters-at-once, enters-wait, enters-address, enters-data, enters-answer))
+    (λ c. search (enters, enters-at-once, enters-wait, enters-address, enters-data, enters-answer))
+    (λ c. search (enters, enters-at-once, enters-wait, enters-address, enters-data, enters-answer))
+    (λ c. search (enters, enters-at-once, enters-wait, enters-address, enters-data, enters-answer))
+    (λ c. search (enters, enters-at-once, enters-wait, enters-address, enters-data, enters-answer))
+    (λ c. search (enters, enters-at-once, enters-wait, enters-address, enters-data, enters-answer)))

@@ -1,0 +1,26 @@
+use borrow.Author.Needs.{needs}
+use Rattle.controller.proofs.Walk.{noted, noted-closed, noted-heard, noted-written, noted-got, not-heard, not-written}
+use Rattle.controller.proofs.Cursor.note.Statement.{statement}
+use Rattle.controller.proofs.Cursor.note.Tie as tie
+
+pub note-spec : {M : Type 1} → statement M
+note-spec =
+    tie.close (tie.spec
+    (λ c. search needs) (λ c. search needs) (λ c. search needs) (λ c. search needs) (λ c. search needs)
+    (λ c κs. search needs) (λ c. search needs) (λ c. search needs) (λ c. search needs)
+    (λ c. search (noted, noted-closed, noted-heard, noted-written, noted-got, not-heard, not-written))
+    (λ c κs. search needs) (λ c. search needs) (λ c. search needs)
+    (λ c. search (noted, noted-closed, noted-heard, noted-written, noted-got, not-heard, not-written)) (λ c. search needs)
+    (λ c. search needs) (λ c κs. search needs) (λ c. search needs) (λ c. search needs) (λ c. search needs)
+    (λ c. search needs) (λ c. search needs) (λ c κs. search needs) (λ c. search needs) (λ c. search needs)
+    (λ c κs. search needs)
+    (λ c. search (noted, noted-closed, noted-heard, noted-written, noted-got, not-heard, not-written))
+    (λ c. search (noted, noted-closed, noted-heard, noted-written, noted-got, not-heard, not-written)) (λ c. search needs)
+    (λ c. search (noted, noted-closed, noted-heard, noted-written, noted-got, not-heard, not-written))
+    (λ c. search (noted, noted-closed, noted-heard, noted-written, noted-got, not-heard, not-written))
+    (λ c. search (noted, noted-closed, noted-heard, noted-written, noted-got, not-heard, not-written)) (λ c. search needs)
+    (λ c. search (noted, noted-closed, noted-heard, noted-written, noted-got, not-heard, not-written))
+    (λ c. search (noted, noted-closed, noted-heard, noted-written, noted-got, not-heard, not-written)) (λ c. search needs)
+    (λ c. search (noted, noted-closed, noted-heard, noted-written, noted-got, not-heard, not-written))
+    (λ c. search (noted, noted-closed, noted-heard, noted-written, noted-got, not-heard, not-written)) (λ c. search needs)
+    (λ c. search (noted, noted-closed, noted-heard, noted-written, noted-got, not-heard, not-written)))

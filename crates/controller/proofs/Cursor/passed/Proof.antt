@@ -1,0 +1,10 @@
+use borrow.Author.Needs.{needs}
+use Rattle.controller.proofs.Walk.{passes}
+use Rattle.controller.proofs.Cursor.passed.Statement.{statement}
+use Rattle.controller.proofs.Cursor.passed.Tie as tie
+
+pub passed-spec : {M : Type 1} → statement M
+passed-spec =
+    tie.close (tie.spec
+    (λ c κs. search needs) (λ c κs. search needs) (λ c. search needs) (λ c. search needs) (λ c. search needs)
+    (λ c. search needs) (λ c. search needs) (λ c. search needs) (λ c κs. search needs) (λ c. search (passes)))

@@ -1,0 +1,10 @@
+use borrow.Author.Needs.{needs}
+use Rattle.controller.proofs.Walk.{is-critical, is-not}
+use Rattle.controller.proofs.Cursor.refused_by.Statement.{statement}
+use Rattle.controller.proofs.Cursor.refused_by.Tie as tie
+
+pub refused-by-spec : {M : Type 1} → statement M
+refused-by-spec =
+    tie.close (tie.spec
+    (λ c. search needs) (λ c. search needs) (λ c κs. search needs) (λ c κs. search needs) (λ c κs. search needs)
+    (λ c κs. search needs) (λ c. search (is-critical, is-not)) (λ c. search (is-critical, is-not)))

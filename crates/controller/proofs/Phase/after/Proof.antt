@@ -1,0 +1,18 @@
+use borrow.Author.Needs.{needs}
+use Rattle.controller.proofs.Moves.{wait-over, waits-on, rises, held-on, after-is, room-to-hold}
+use Rattle.controller.proofs.Phase.after.Statement.{statement}
+use Rattle.controller.proofs.Phase.after.Tie as tie
+
+pub after-spec : {M : Type 1} → statement M
+after-spec =
+    tie.close (tie.spec
+    (λ c. search needs) (λ c. search needs) (λ c. search needs) (λ c. search needs) (λ c. search needs) (λ c. search needs)
+    (λ c. search (needs, room-to-hold)) (λ c. search needs)
+    (λ c. search (wait-over, waits-on, rises, held-on, after-is))
+    (λ c. search (wait-over, waits-on, rises, held-on, after-is))
+    (λ c. search (wait-over, waits-on, rises, held-on, after-is))
+    (λ c. search (wait-over, waits-on, rises, held-on, after-is))
+    (λ c. search (wait-over, waits-on, rises, held-on, after-is))
+    (λ c. search (wait-over, waits-on, rises, held-on, after-is))
+    (λ c. search (wait-over, waits-on, rises, held-on, after-is))
+    (λ c. search (wait-over, waits-on, rises, held-on, after-is)))

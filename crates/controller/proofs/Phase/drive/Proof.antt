@@ -1,0 +1,12 @@
+use borrow.Author.Needs.{needs}
+use Rattle.controller.proofs.Table.{drive-is}
+use Rattle.controller.proofs.Phase.drive.Statement.{statement}
+use Rattle.controller.proofs.Phase.drive.Tie as tie
+
+pub drive-spec : {M : Type 1} → statement M
+drive-spec =
+    tie.close (tie.spec
+    (λ c. search needs) (λ c κs. search needs) (λ c. search needs) (λ c κs. search needs) (λ c. search needs)
+    (λ c κs. search needs) (λ c. search needs) (λ c κs. search needs) (λ c. search needs) (λ c κs. search needs)
+    (λ c. search needs) (λ c κs. search needs) (λ c. search drive-is) (λ c. search drive-is) (λ c. search drive-is)
+    (λ c. search drive-is) (λ c. search drive-is) (λ c. search drive-is))

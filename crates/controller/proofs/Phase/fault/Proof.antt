@@ -1,0 +1,15 @@
+use borrow.Author.Needs.{needs}
+use Rattle.controller.proofs.Ladder.{line-broken, not-free, clock-stuck, undefined, data-lost, clear}
+use Rattle.controller.proofs.Phase.fault.Statement.{statement}
+use Rattle.controller.proofs.Phase.fault.Tie as tie
+
+pub fault-spec : {M : Type 1} → statement M
+fault-spec =
+    tie.close (tie.spec
+    (λ c κs. search needs) (λ c κs. search needs)
+    (λ c. search (line-broken, not-free, clock-stuck, undefined, data-lost, clear)) (λ c κs. search needs)
+    (λ c. search (line-broken, not-free, clock-stuck, undefined, data-lost, clear)) (λ c κs. search needs)
+    (λ c. search (line-broken, not-free, clock-stuck, undefined, data-lost, clear)) (λ c κs. search needs)
+    (λ c. search (line-broken, not-free, clock-stuck, undefined, data-lost, clear)) (λ c κs. search needs)
+    (λ c. search (line-broken, not-free, clock-stuck, undefined, data-lost, clear))
+    (λ c. search (line-broken, not-free, clock-stuck, undefined, data-lost, clear)))

@@ -1,0 +1,11 @@
+use borrow.Author.Needs.{needs}
+use Rattle.controller.proofs.Ladder.{not-low, low-for}
+use Rattle.controller.proofs.Phase.is_stuck.Statement.{statement}
+use Rattle.controller.proofs.Phase.is_stuck.Tie as tie
+
+pub is-stuck-spec : {M : Type 1} → statement M
+is-stuck-spec =
+    tie.close (tie.spec
+    (λ c. search needs) (λ c. search needs) (λ c. search needs) (λ c. search needs) (λ c. search needs) (λ c. search needs)
+    (λ c. search needs) (λ c. search needs) (λ c. search needs) (λ c. search needs) (λ c. search needs)
+    (λ c. search (not-low, low-for)) (λ c. search needs))

@@ -1,0 +1,11 @@
+use borrow.Author.Needs.{needs}
+use Rattle.controller.proofs.Ladder.{not-high, differs-is}
+use Rattle.controller.proofs.Phase.is_undefined.Statement.{statement}
+use Rattle.controller.proofs.Phase.is_undefined.Tie as tie
+
+pub is-undefined-spec : {M : Type 1} → statement M
+is-undefined-spec =
+    tie.close (tie.spec
+    (λ c. search needs) (λ c. search needs) (λ c. search needs) (λ c. search needs) (λ c. search needs) (λ c. search needs)
+    (λ c κs. search needs) (λ c κs. search needs) (λ c. search needs) (λ c. search needs) (λ c. search needs)
+    (λ c. search needs) (λ c. search needs) (λ c. search (not-high, differs-is)) (λ c. search needs))

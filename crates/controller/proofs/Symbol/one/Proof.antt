@@ -1,0 +1,12 @@
+use borrow.Author.Needs.{needs}
+use Rattle.controller.proofs.Table.{row-one, start-one}
+use Rattle.controller.proofs.Symbol.one.Statement.{statement}
+use Rattle.controller.proofs.Symbol.one.Tie as tie
+
+pub one-spec : {M : Type 1} → statement M
+one-spec =
+    tie.close (tie.spec
+    (λ c. search needs) (λ c. search needs) (λ c κs. search needs) (λ c. search needs) (λ c κs. search needs)
+    (λ c. search needs) (λ c κs. search needs) (λ c. search needs) (λ c κs. search needs) (λ c. search needs)
+    (λ c κs. search needs) (λ c. search (row-one, start-one)) (λ c. search (row-one, start-one))
+    (λ c. search (row-one, start-one)) (λ c. search (row-one, start-one)) (λ c. search (row-one, start-one)))

@@ -1,0 +1,12 @@
+use borrow.Author.Needs.{needs}
+use Rattle.controller.proofs.Table.{row-three, start-three}
+use Rattle.controller.proofs.Symbol.three.Statement.{statement}
+use Rattle.controller.proofs.Symbol.three.Tie as tie
+
+pub three-spec : {M : Type 1} → statement M
+three-spec =
+    tie.close (tie.spec
+    (λ c. search needs) (λ c. search needs) (λ c κs. search needs) (λ c. search needs) (λ c κs. search needs)
+    (λ c. search needs) (λ c κs. search needs) (λ c. search needs) (λ c κs. search needs) (λ c. search needs)
+    (λ c κs. search needs) (λ c. search (row-three, start-three)) (λ c. search (row-three, start-three))
+    (λ c. search (row-three, start-three)) (λ c. search (row-three, start-three)) (λ c. search (row-three, start-three)))

@@ -1,0 +1,12 @@
+use borrow.Author.Needs.{needs}
+use Rattle.controller.proofs.Table.{row-two, start-two}
+use Rattle.controller.proofs.Symbol.two.Statement.{statement}
+use Rattle.controller.proofs.Symbol.two.Tie as tie
+
+pub two-spec : {M : Type 1} → statement M
+two-spec =
+    tie.close (tie.spec
+    (λ c. search needs) (λ c. search needs) (λ c κs. search needs) (λ c. search needs) (λ c κs. search needs)
+    (λ c. search needs) (λ c κs. search needs) (λ c. search needs) (λ c κs. search needs) (λ c. search needs)
+    (λ c κs. search needs) (λ c. search (row-two, start-two)) (λ c. search (row-two, start-two))
+    (λ c. search (row-two, start-two)) (λ c. search (row-two, start-two)) (λ c. search (row-two, start-two)))

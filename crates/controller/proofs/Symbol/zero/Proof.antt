@@ -1,0 +1,12 @@
+use borrow.Author.Needs.{needs}
+use Rattle.controller.proofs.Table.{row-zero, start-zero}
+use Rattle.controller.proofs.Symbol.zero.Statement.{statement}
+use Rattle.controller.proofs.Symbol.zero.Tie as tie
+
+pub zero-spec : {M : Type 1} → statement M
+zero-spec =
+    tie.close (tie.spec
+    (λ c. search needs) (λ c. search needs) (λ c κs. search needs) (λ c. search needs) (λ c κs. search needs)
+    (λ c. search needs) (λ c κs. search needs) (λ c. search needs) (λ c κs. search needs) (λ c. search needs)
+    (λ c κs. search needs) (λ c. search (row-zero, start-zero)) (λ c. search (row-zero, start-zero))
+    (λ c. search (row-zero, start-zero)) (λ c. search (row-zero, start-zero)) (λ c. search (row-zero, start-zero)))
