@@ -1,5 +1,5 @@
 pub mod Pages
 pub mod Kept
-pub mod Hearing
+pub mod Hears
 pub mod Records
-pub mod Alone
+pub mod Entry
