@@ -2,7 +2,7 @@
 -- whole run. Assumes nothing.
 use Prim.Native.Nat.{ℕ, zero, suc, _+_, _*_, _/_, _%_, _<_, _≤_}
 use mathlib.Core.Path.{_≡_, refl, ap, sym, _∙_}
-use mathlib.Core.Bool.{Bool, true, false, not, _&&_}
+use mathlib.Core.Bool.{Bool, true, false, not, _&&_, and-eq-true-iff}
 use mathlib.Core.List.{List, [], _∷_}
 use native.Mathlib.Omega.{arith}
 use borrow.Author.Tests.{lt-ltb, le-ltb, le-leb, eq-eqb, ne-eqb, ltb-false, eqb-true, not-true, not-false}
@@ -92,11 +92,7 @@ module _ (strap asked : ℕ) (memory state samples drives : List ℕ) where
   unfolding chipNumber
   four-bytes n e z =
       let later : (no 3 (not (eqb (length memory) (geometryOf Large .size) && eqb (length state) 4)) then _) ≡ 0 = none-later (no 10 (ltb 7 strap)) _ (sym e ∙ z) in
-      eqb-true (length state) 4 (both (eqb (length memory) (geometryOf Large .size)) (eqb (length state) 4) (not-false _ (not-said 2 _ (none-first _ _ later))))
-    where
-      both : (a b : Bool) → (a && b) ≡ true → b ≡ true
-      both true b h = h
-      both false b h = absurd (let z : _≡_ {A = ℕ} 0 1 = cc in omega arith)
+      eqb-true (length state) 4 (and-eq-true-iff (eqb (length memory) (geometryOf Large .size)) (eqb (length state) 4) .0 (not-false _ (not-said 2 _ (none-first _ _ later))) .1)
 
 pub rests : (eye : Eye) (s : Store) (name : ℕ) (model : Model) (p busy : ℕ) → eye ≡ opened → ((m : List ℕ) → keptOf s m ≡ keptAt name model p m) → (m : List ℕ) → watchOf (record { eye = eye; chip = record { stage = Deaf; store = s }; busy = busy }) m ≡ restOf (keptAt name model p m) busy
 rests eye s name model p busy q h m = rw q (ap (λ (k : Kept). restOf k busy) (h m))

@@ -1,5 +1,5 @@
 use borrow.Author.Needs.{needs}
-use Rattle.eeprom.proofs.Kept.{one-stored, none-stored}
+use Rattle.eeprom.proofs.Takes.{one-stored, none-stored}
 use Rattle.eeprom.proofs.keeping.store_one.Statement.{statement}
 use Rattle.eeprom.proofs.keeping.store_one.Tie as tie
 
