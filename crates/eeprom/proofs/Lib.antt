@@ -1,5 +1,8 @@
 pub mod Pages
-pub mod Kept
-pub mod Hearing
+pub mod Takes
+pub mod Hears
 pub mod Records
-pub mod Alone
+pub mod Entry
+pub mod Stored
+pub mod Kept
+pub mod Listening

@@ -2,18 +2,19 @@
 use Prim.Native.Nat.{ℕ, zero, suc, _+_, _*_, _/_, _%_, _≤_, _<_}
 use mathlib.Core.Path.{_≡_, refl, ap, sym, _∙_}
 use native.Mathlib.Omega.{arith}
-use native.Mathlib.Nat.{mul-add-div-right, mul-add-mod-self-right, mod-lt, mod-le, mod-mod, mod-add-mod, div-eq-of-lt, div-lt-iff-lt-mul, div-mul-le-self, add-zero}
+use native.Mathlib.Nat.{mul-add-div-right, mul-add-mod-self-right, mod-lt, mod-le, mod-mod, mod-add-mod, div-eq-of-lt, div-lt-iff-lt-mul, div-mul-le-self, add-zero, suc-mul, mul-le-mul-right}
 use Rattle.eeprom.specs.Pages.{Geometry, Shape, geometryOf, pageStart, pageStep, readStep, pointerOf}
 use Rattle.eeprom.specs.declared.Model.{Model}
 use Rattle.eeprom.specs.declared.Model.the-variants.{Large}
 
--- whole pages fill the chip, and all that a word can point at
+-- whole pages fill the chip, and all that a word can point at; a page is no wider than the latch
 pub record Fits (g : Geometry) : Type 0 where
   pub pages : ℕ
   pub whole : g .size ≡ pages * g .page
   pub words : ℕ
   pub round : 65536 ≡ words * g .page
   pub some : 0 < g .page
+  pub narrow : g .page ≤ 32
   pub full : 0 < g .size
 
 module _ {g : Geometry} (f : Fits g) where
@@ -33,7 +34,16 @@ module _ {g : Geometry} (f : Fits g) where
   unfolding pageStart
   start-kept p = rw (page-kept p)
 
-  -- so it stays in whatever is whole pages
+  -- a page lies whole in whatever is whole pages
+  page-ends : (all n p : ℕ) → all ≡ n * g .page → p < all → pageStart g p + g .page ≤ all
+  unfolding pageStart
+  page-ends all n p e h =
+      rw (e, ← suc-mul (p / g .page) (g .page)) (mul-le-mul-right (g .page) (div-lt-iff-lt-mul (f .some) .1 (rw e at h)))
+
+  pub page-whole : (p : ℕ) → p < g .size → pageStart g p + g .page ≤ g .size
+  page-whole p h = page-ends (g .size) (f .pages) p (f .whole) h
+
+  -- so a write step stays in it
   page-within : (all n p : ℕ) → all ≡ n * g .page → p < all → pageStep g p < all
   page-within all n p e h = rw e (div-lt-iff-lt-mul (f .some) .0 (rw (page-kept p) (div-lt-iff-lt-mul (f .some) .1 (rw e at h))))
 
@@ -53,7 +63,7 @@ module _ {g : Geometry} (f : Fits g) where
 
 pub fits : (m : Model) → Fits (geometryOf m)
 unfolding geometryOf
-fits Large = record { pages = 128; whole = refl; words = 2048; round = refl; some = omega arith; full = omega arith }
+fits Large = record { pages = 128; whole = refl; words = 2048; round = refl; some = omega arith; narrow = omega arith; full = omega arith }
 
 -- each model's numbers
 pub size-shape : (m : Model) → Shape 1 4096 4096 (geometryOf m .size)

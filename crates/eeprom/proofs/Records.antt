@@ -89,6 +89,13 @@ module _ (P : Party) where
   unfolding leaves walk drivesOn
   at-end i xs s d h = rw (drop-of-length-le xs h, all-bytes i d, add-zero i)
 
+  -- so a loop from the first sample to the last has walked the record
+  pub walked : (i : ℕ) (xs : List ℕ) (s s₀ : P .State) (d d₀ : List ℕ) → leaves i xs s d ≡ leaves 0 xs s₀ d₀ → length xs ≤ i → s ≡ walk P xs s₀
+  walked i xs s s₀ d d₀ e h = ap (λ (z : Left). z .last) (sym (at-end i xs s d h) ∙ e ∙ from-first xs s₀ d₀)
+
+  pub drove : (i : ℕ) (xs : List ℕ) (s s₀ : P .State) (d d₀ : List ℕ) → leaves i xs s d ≡ leaves 0 xs s₀ d₀ → length xs ≤ i → d ≡ over (drivesOn P xs s₀) d₀
+  drove i xs s s₀ d d₀ e h = ap (λ (z : Left). z .drives) (sym (at-end i xs s d h) ∙ e ∙ from-first xs s₀ d₀)
+
   -- the party is at its end, which it does not leave
   module _ (s : P .State) (over : P .ended s ≡ true) (stays : (l : Lines) → P .tick l s ≡ s) where
     walks-no-more : (xs : List ℕ) → walk P xs s ≡ s

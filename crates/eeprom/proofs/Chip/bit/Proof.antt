@@ -1,5 +1,5 @@
 use borrow.Author.Needs.{needs}
-use Rattle.eeprom.proofs.Hearing.{names-on, names-last, named-read, named-write, takes-on, takes-last, took, sends-on, sends-last, asked, deaf}
+use Rattle.eeprom.proofs.Hears.{names-on, names-last, named-read, named-write, takes-on, takes-last, took, sends-on, sends-last, asked, deaf}
 use Rattle.eeprom.proofs.Chip.bit.Statement.{statement}
 use Rattle.eeprom.proofs.Chip.bit.Tie as tie
 

@@ -1,5 +1,5 @@
 use borrow.Author.Needs.{needs}
-use Rattle.eeprom.proofs.Hearing.{hears-nothing, hears-start, hears-stop, hears-bit}
+use Rattle.eeprom.proofs.Hears.{hears-nothing, hears-start, hears-stop, hears-bit}
 use Rattle.eeprom.proofs.Chip.hear.Statement.{statement}
 use Rattle.eeprom.proofs.Chip.hear.Tie as tie
 

@@ -1,4 +1,4 @@
-use Rattle.eeprom.proofs.Kept.{blank}
+use Rattle.eeprom.proofs.Takes.{blank}
 use Rattle.eeprom.proofs.Store.at_rest.Statement.{statement}
 use Rattle.eeprom.proofs.Store.at_rest.Tie as tie
 

@@ -1,6 +1,6 @@
 use borrow.Author.Needs.{needs}
 use mathlib.Core.Path.{_∙_}
-use Rattle.eeprom.proofs.Kept.{byte-is}
+use Rattle.eeprom.proofs.Takes.{byte-is}
 use Rattle.eeprom.proofs.Store.byte_now.Statement.{statement}
 use Rattle.eeprom.proofs.Store.byte_now.Tie as tie
 

@@ -1,5 +1,5 @@
 use borrow.Author.Needs.{needs}
-use Rattle.eeprom.proofs.Kept.{stops-due, stops-idle}
+use Rattle.eeprom.proofs.Takes.{stops-due, stops-idle}
 use Rattle.eeprom.proofs.Store.stops.Statement.{statement}
 use Rattle.eeprom.proofs.Store.stops.Tie as tie
 

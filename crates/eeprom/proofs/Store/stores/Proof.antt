@@ -2,7 +2,7 @@ use Prim.Native.Nat.{_≤_, _-_}
 use borrow.Author.Needs.{needs}
 use lib.ListN.{length}
 use mathlib.Core.Path.{_≡_}
-use Rattle.eeprom.proofs.Kept.{none-yet, one-more, all-stored}
+use Rattle.eeprom.proofs.Takes.{none-yet, one-more, all-stored}
 use Rattle.eeprom.specs.Keeping.{stored}
 use Rattle.eeprom.proofs.Store.stores.Statement.{statement}
 use Rattle.eeprom.proofs.Store.stores.Tie as tie

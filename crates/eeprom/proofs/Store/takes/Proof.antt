@@ -1,5 +1,5 @@
 use borrow.Author.Needs.{needs}
-use Rattle.eeprom.proofs.Kept.{takes-data, takes-pointer, takes-high}
+use Rattle.eeprom.proofs.Takes.{takes-data, takes-pointer, takes-high}
 use Rattle.eeprom.proofs.Store.takes.Statement.{statement}
 use Rattle.eeprom.proofs.Store.takes.Tie as tie
 

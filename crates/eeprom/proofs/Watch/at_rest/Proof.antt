@@ -1,5 +1,5 @@
 use borrow.Author.Needs.{needs}
-use Rattle.eeprom.proofs.Alone.{rests}
+use Rattle.eeprom.proofs.Entry.{rests}
 use Rattle.eeprom.proofs.Watch.at_rest.Statement.{statement}
 use Rattle.eeprom.proofs.Watch.at_rest.Tie as tie
 

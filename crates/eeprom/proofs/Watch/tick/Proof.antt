@@ -1,5 +1,5 @@
 use borrow.Author.Needs.{needs}
-use Rattle.eeprom.proofs.Alone.{ticked}
+use Rattle.eeprom.proofs.Entry.{ticked}
 use Rattle.eeprom.proofs.Watch.tick.Statement.{statement}
 use Rattle.eeprom.proofs.Watch.tick.Tie as tie
 

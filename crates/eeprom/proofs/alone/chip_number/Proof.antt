@@ -1,7 +1,7 @@
 use borrow.Author.Needs.{needs}
-use Rattle.eeprom.proofs.Alone.{no-such-strap, memory-not-whole, state-not-four, state-not-right, asked-too-long, sample-too-large, drives-too-short, accepted}
-use Rattle.eeprom.proofs.chip_number.Statement.{statement}
-use Rattle.eeprom.proofs.chip_number.Tie as tie
+use Rattle.eeprom.proofs.Entry.{no-such-strap, memory-not-whole, state-not-four, state-not-right, asked-too-long, sample-too-large, drives-too-short, accepted}
+use Rattle.eeprom.proofs.alone.chip_number.Statement.{statement}
+use Rattle.eeprom.proofs.alone.chip_number.Tie as tie
 
 pub chip-number-spec : {M : Type 1} → statement M
 chip-number-spec =

@@ -1,7 +1,7 @@
 use borrow.Author.Needs.{needs}
-use Rattle.eeprom.proofs.Kept.{one-stored, none-stored}
-use Rattle.eeprom.proofs.store_one.Statement.{statement}
-use Rattle.eeprom.proofs.store_one.Tie as tie
+use Rattle.eeprom.proofs.Takes.{one-stored, none-stored}
+use Rattle.eeprom.proofs.keeping.store_one.Statement.{statement}
+use Rattle.eeprom.proofs.keeping.store_one.Tie as tie
 
 pub store-one-spec : {M : Type 1} → statement M
 store-one-spec =

@@ -1,7 +1,7 @@
 use borrow.Author.Needs.{needs}
-use Rattle.eeprom.proofs.Alone.{state-put}
-use Rattle.eeprom.proofs.put_state.Statement.{statement}
-use Rattle.eeprom.proofs.put_state.Tie as tie
+use Rattle.eeprom.proofs.Entry.{state-put}
+use Rattle.eeprom.proofs.alone.put_state.Statement.{statement}
+use Rattle.eeprom.proofs.alone.put_state.Tie as tie
 
 pub put-state-spec : {M : Type 1} → statement M
 put-state-spec =

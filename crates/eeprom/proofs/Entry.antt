@@ -2,7 +2,7 @@
 -- whole run. Assumes nothing.
 use Prim.Native.Nat.{ℕ, zero, suc, _+_, _*_, _/_, _%_, _<_, _≤_}
 use mathlib.Core.Path.{_≡_, refl, ap, sym, _∙_}
-use mathlib.Core.Bool.{Bool, true, false, not, _&&_}
+use mathlib.Core.Bool.{Bool, true, false, not, _&&_, and-eq-true-iff}
 use mathlib.Core.List.{List, [], _∷_}
 use native.Mathlib.Omega.{arith}
 use borrow.Author.Tests.{lt-ltb, le-ltb, le-leb, eq-eqb, ne-eqb, ltb-false, eqb-true, not-true, not-false}
@@ -26,7 +26,7 @@ use Rattle.eeprom.specs.declared.Watch.{Watch}
 use Rattle.eeprom.specs.declared.Answer.{Answer}
 use Rattle.eeprom.specs.declared.Model.{Model}
 use Rattle.eeprom.specs.declared.Model.the-variants.{Large}
-use Rattle.eeprom.proofs.Records.{Left, leaves, one-byte, all-bytes, from-front, from-first, one-tick, at-end, over-whole, none-first, none-later, not-said}
+use Rattle.eeprom.proofs.Records.{Left, leaves, one-byte, all-bytes, from-front, one-tick, over-whole, none-first, none-later, not-said}
 
 pub in-range : (m : Model) (size p b : ℕ) → size ≡ geometryOf m .size → p < size → leb b 20000 ≡ (ltb p (geometryOf m .size) && leb b mostBusy)
 unfolding mostBusy
@@ -92,11 +92,7 @@ module _ (strap asked : ℕ) (memory state samples drives : List ℕ) where
   unfolding chipNumber
   four-bytes n e z =
       let later : (no 3 (not (eqb (length memory) (geometryOf Large .size) && eqb (length state) 4)) then _) ≡ 0 = none-later (no 10 (ltb 7 strap)) _ (sym e ∙ z) in
-      eqb-true (length state) 4 (both (eqb (length memory) (geometryOf Large .size)) (eqb (length state) 4) (not-false _ (not-said 2 _ (none-first _ _ later))))
-    where
-      both : (a b : Bool) → (a && b) ≡ true → b ≡ true
-      both true b h = h
-      both false b h = absurd (let z : _≡_ {A = ℕ} 0 1 = cc in omega arith)
+      eqb-true (length state) 4 (and-eq-true-iff (eqb (length memory) (geometryOf Large .size)) (eqb (length state) 4) .0 (not-false _ (not-said 2 _ (none-first _ _ later))) .1)
 
 pub rests : (eye : Eye) (s : Store) (name : ℕ) (model : Model) (p busy : ℕ) → eye ≡ opened → ((m : List ℕ) → keptOf s m ≡ keptAt name model p m) → (m : List ℕ) → watchOf (record { eye = eye; chip = record { stage = Deaf; store = s }; busy = busy }) m ≡ restOf (keptAt name model p m) busy
 rests eye s name model p busy q h m = rw q (ap (λ (k : Kept). restOf k busy) (h m))
@@ -130,19 +126,25 @@ pub turn : (asked i : ℕ) (xs : List ℕ) (w v : Watch) (m n d e : List ℕ) (r
 turn asked i xs w v m n d e r drive l x inv a b p q t h =
     one-tick (chip asked) i xs (watchOf w m) (watchOf v n) d e refl (t ∙ ap (λ (y : Lines). chip asked .tick y (watchOf w m)) q) (p ∙ ap (λ (y : ℕ). set d i y) (b ∙ ap byteOf a)) h ∙ inv
 
+-- a chip has no end of its own: it drives in every tick
+pub drives-always : (asked : ℕ) (xs : List ℕ) (s : Watching) → length (drivesOn (chip asked) xs s) ≡ length xs
+unfolding drivesOn
+drives-always asked [] s = refl
+drives-always asked (x ∷ xs) s = ap suc (drives-always asked xs (chip asked .tick (linesOf x) s))
+
 module _ (strap asked : ℕ) (memory state samples drives : List ℕ) where
   pub turned-down : (n : ℕ) → n ≡ chipNumber strap memory state asked samples drives → (n ≡ 0 → ⊥) → leftBy (record { number = n; ticks = 0 }) memory state drives ≡ chipAlone strap memory state asked samples drives
   unfolding chipAlone
   turned-down n e h = rw (← e, ne-eqb n 0 h)
 
-  abbrev told-of : Left (chip asked) → ChipAlone
-  told-of z = record { answer = record { number = 0; ticks = z .ticks }; memory = z .last .body .core .kept .memory; state = stateBytes (z .last .body) []; drives = z .drives }
+  abbrev first : Watching
+  first = record { eye = opened; body = bodyFrom strap Large memory state 0 }
 
-  pub ran : (n i p b : ℕ) (w₀ w : Watch) (m d s : List ℕ) → n ≡ chipNumber strap memory state asked samples drives → n ≡ 0 → p ≡ wordAt state 0 → b ≡ wordAt state 2 → ((k : List ℕ) → watchOf w₀ k ≡ restOf (keptAt (80 + strap) Large p k) b) → leaves (chip asked) i samples (watchOf w m) d ≡ leaves (chip asked) 0 samples (watchOf w₀ memory) drives → s ≡ over (wordBytes (w .chip .store .pointer) (wordBytes (w .busy) [])) state → length samples ≤ i → leftBy (record { number = 0; ticks = i }) m s d ≡ chipAlone strap memory state asked samples drives
+  pub ran : (n p b : ℕ) (w₀ w : Watch) (m d s : List ℕ) → n ≡ chipNumber strap memory state asked samples drives → n ≡ 0 → p ≡ wordAt state 0 → b ≡ wordAt state 2 → ((k : List ℕ) → watchOf w₀ k ≡ restOf (keptAt (80 + strap) Large p k) b) → watchOf w m ≡ walk (chip asked) samples (watchOf w₀ memory) → d ≡ over (drivesOn (chip asked) samples (watchOf w₀ memory)) drives → s ≡ over (wordBytes (w .chip .store .pointer) (wordBytes (w .busy) [])) state → leftBy (record { number = 0; ticks = length samples }) m s d ≡ chipAlone strap memory state asked samples drives
   unfolding chipAlone
-  ran n i p b w₀ w m d s e z pe be rest inv se h =
+  ran n p b w₀ w m d s e z pe be rest we de se =
       let row : s ≡ stateBytes (watchOf w m .body) [] = se ∙ over-whole _ state (sym (four-bytes strap asked memory state samples drives n e z)) in
-      let same : watchOf w₀ memory ≡ record { eye = opened; body = bodyFrom strap Large memory state 0 } = rest memory ∙ rw (pe, be) in
-      let all : record { last = watchOf w m; drives = d; ticks = i } ≡ leaves (chip asked) 0 samples (record { eye = opened; body = bodyFrom strap Large memory state 0 }) drives =
-      sym (at-end (chip asked) i samples (watchOf w m) d h) ∙ inv ∙ ap (λ (y : Watching). leaves (chip asked) 0 samples y drives) same in
-      rw (← e, z, row) (ap told-of (all ∙ from-first (chip asked) samples _ drives))
+      let same : watchOf w₀ memory ≡ first = rest memory ∙ rw (pe, be) in
+      let last : watchOf w m ≡ walk (chip asked) samples first = we ∙ ap (λ (y : Watching). walk (chip asked) samples y) same in
+      let wrote : d ≡ over (drivesOn (chip asked) samples first) drives = de ∙ ap (λ (y : Watching). over (drivesOn (chip asked) samples y) drives) same in
+      rw (← e, z, row, wrote, drives-always asked samples first) (ap (λ (y : Watching). leftBy (record { number = 0; ticks = length samples }) (y .body .core .kept .memory) (stateBytes (y .body) []) (over (drivesOn (chip asked) samples first) drives)) last)

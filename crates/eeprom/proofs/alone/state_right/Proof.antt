@@ -1,7 +1,7 @@
 use borrow.Author.Needs.{needs}
-use Rattle.eeprom.proofs.Alone.{in-range, past-the-end}
-use Rattle.eeprom.proofs.state_right.Statement.{statement}
-use Rattle.eeprom.proofs.state_right.Tie as tie
+use Rattle.eeprom.proofs.Entry.{in-range, past-the-end}
+use Rattle.eeprom.proofs.alone.state_right.Statement.{statement}
+use Rattle.eeprom.proofs.alone.state_right.Tie as tie
 
 pub state-right-spec : {M : Type 1} → statement M
 state-right-spec =

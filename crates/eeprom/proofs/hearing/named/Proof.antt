@@ -1,6 +1,6 @@
 use borrow.Author.Tests.{eq-eqb, ne-eqb}
-use Rattle.eeprom.proofs.named.Statement.{statement}
-use Rattle.eeprom.proofs.named.Tie as tie
+use Rattle.eeprom.proofs.hearing.named.Statement.{statement}
+use Rattle.eeprom.proofs.hearing.named.Tie as tie
 
 pub named-spec : {M : Type 1} → statement M
 named-spec =
