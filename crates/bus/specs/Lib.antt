@@ -1,3 +1,4 @@
 pub mod Holding
 pub mod Wires
 pub mod Run
+pub mod Inside

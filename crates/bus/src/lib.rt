@@ -1,7 +1,205 @@
-// The run over two wires: one controller, the chips that the marks name, one clock holder.
+// The run over two wires: one controller, the chips that the marks name, one clock holder. An event is found once a tick, and the chips are touched
+// only where there is one.
+ghost use mathlib.Core.Path.{_≡_};
+ghost use Prim.Native.Nat.{ℕ, _+_, _-_, _<_, _≤_};
+ghost use lib.ListN.{length, set};
+ghost use Rattle.lines.specs.Events.{eventOf};
+ghost use Rattle.controller.specs.Symbols.{isOver};
+ghost use Rattle.controller.specs.Cursor.{controlOf, places};
+ghost use Rattle.controller.specs.Ticks.{controlTick};
+ghost use Rattle.board.specs.Seats.{seated, offset, allUp};
+ghost use Rattle.bus.specs.Holding.{holdTick};
+ghost use Rattle.bus.specs.Inside.{holdingOf, busLines, busSees, phaseRest, restOf, restedOf, filled, limit};
+use board::Seat;
+use controller::Begin;
+use controller::Controller;
+use controller::Phase;
+use controller::Symbol;
+use lines::Event;
+use lines::Eye;
+use lines::Lines;
+use lines::put_at;
+
+// No run gets there: the list's own bound is far below.
+const LIMIT: usize = 1099511627776;
 
 // The clock holder: the ticks for which it still drives SCL low, and the next place in the hold list.
 pub struct Holder {
-    pub left: u8,
+    pub left: u16,
     pub next: usize,
+}
+
+impl Holder {
+    // A clocked symbol begins where SCL falls, every one of them: a list that passed STOPs over would hold the wrong symbols.
+    fn tick(self, past: bool, seen: bool, holds: &[u8]) -> Holder
+        ensures { λ r. ⌜ holdingOf r (now (holds .entry)) ≡ holdTick past seen (holdingOf self (now (holds .entry))) ⌝ }
+    {
+        let next = self.next;
+        if past {
+            if seen {
+                Holder {
+                    left: one_less(self.left),
+                    next: next,
+                }
+            } else {
+                if next < holds.len() {
+                    Holder {
+                        left: 1 + holds[next] as u16,
+                        next: next + 1,
+                    }
+                } else {
+                    Holder {
+                        left: 1,
+                        next: next,
+                    }
+                }
+            }
+        } else {
+            if seen {
+                Holder {
+                    left: one_less(self.left),
+                    next: next,
+                }
+            } else {
+                Holder {
+                    left: one_less(self.left),
+                    next: next,
+                }
+            }
+        }
+    }
+}
+
+fn one_less(n: u16) -> u16
+    ensures { λ r. ⌜ r ≡ n - 1 ⌝ }
+{
+    if 0 < n { n - 1 } else { 0 }
+}
+
+// All parties but the chips; `up` is the SDA that the chips leave.
+pub struct Bus {
+    pub control: Controller,
+    pub hold: Holder,
+    pub eye: Eye,
+    pub up: bool,
+}
+
+// The ticks that a wait still takes, 0 outside of one.
+fn wait_left(phase: Phase) -> usize
+    ensures { λ r. ⌜ r ≡ phaseRest phase ⌝ }
+{
+    match phase {
+        Phase::Over(_) => 0,
+        Phase::Waiting(n) => n as usize + 1,
+        Phase::Zero(_) => 0,
+        Phase::One(_) => 0,
+        Phase::Two(_, _) => 0,
+        Phase::Three(_, _) => 0,
+    }
+}
+
+impl Bus {
+    // The lines of this tick: 0 if any party drives 0.
+    fn lines(self) -> Lines
+        ensures { λ r. ⌜ r ≡ busLines self ⌝ }
+    {
+        let control = self.control;
+        let hold = self.hold;
+        let drive = control.drive();
+        Lines {
+            scl: drive.scl & (hold.left == 0),
+            sda: drive.sda & self.up,
+        }
+    }
+
+    fn event(self, seen: Lines) -> Event
+        ensures { λ r. ⌜ r ≡ eventOf (self .eye) seen ⌝ }
+    {
+        let eye = self.eye;
+        eye.event(seen)
+    }
+
+    fn is_over(self) -> bool
+        ensures { λ r. ⌜ r ≡ isOver (self .control .phase) ⌝ }
+    {
+        let control = self.control;
+        control.is_over()
+    }
+
+    // All but the chips see the lines.
+    fn tick(self, seen: Lines, list: &[u8], holds: &[u8], area: &mut [u8]) -> Bus
+        ensures { λ r. ⌜ busSees (now (list .entry)) (now (holds .entry)) seen self (now (area .entry)) r (now (area .exit)) ⌝ }
+    {
+        let control = self.control;
+        let hold = self.hold;
+        let eye = self.eye;
+        let past = eye.past;
+        let held = hold.tick(past.scl, seen.scl, holds);
+        let after = eye.after(seen);
+        let next = control.tick(seen, list, area);
+        Bus {
+            control: next,
+            hold: held,
+            eye: after,
+            up: self.up,
+        }
+    }
+
+    // The ticks that can be passed at once: what is left of a wait in which both lines are up and were.
+    fn calm(self) -> usize
+        ensures { λ r. ⌜ r ≡ restOf self ⌝ }
+    {
+        let control = self.control;
+        let phase = control.phase;
+        let hold = self.hold;
+        let eye = self.eye;
+        let past = eye.past;
+        if self.up {
+            if hold.left == 0 {
+                if past.scl {
+                    if past.sda { wait_left(phase) } else { 0 }
+                } else {
+                    0
+                }
+            } else {
+                0
+            }
+        } else {
+            0
+        }
+    }
+
+    // After them.
+    fn rested(self) -> Bus
+        ensures { λ r. ⌜ r ≡ restedOf self ⌝ }
+    {
+        let control = self.control;
+        let cursor = control.cursor;
+        let hold = self.hold;
+        let eye = self.eye;
+        Bus {
+            control: Controller {
+                phase: Phase::Zero(Symbol::Start(Begin::First)),
+                was: control.was,
+                cursor: cursor,
+            },
+            hold: hold,
+            eye: eye,
+            up: self.up,
+        }
+    }
+}
+
+// Both lines up in the trace of `count` ticks.
+fn fill(trace: &mut [u8], from: usize, count: usize)
+    requires { ⌜ (from < 1099511627777) × (count < 1099511627777) ⌝ }
+    ensures { λ _. ⌜ now (trace .exit) ≡ filled count from (now (trace .entry)) ⌝ }
+{
+    let mut n = count;
+    let mut i = from;
+    while 0 < n {
+        put_at(trace, i, 3);
+        i += 1;
+        n -= 1;
+    }
 }
