@@ -5,3 +5,4 @@ pub mod Heard
 pub mod Loading
 pub mod Saving
 pub mod Range
+pub mod Turns
