@@ -1,3 +1,5 @@
 pub mod Runs
 pub mod Alike
 pub mod Holds
+pub mod Turns
+pub mod Waits

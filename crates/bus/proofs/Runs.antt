@@ -21,6 +21,10 @@ module _ (Q : Plan) (asked : ℕ) where
   run-over zero b e = refl
   run-over (suc n) b e = rw e
 
+  pub run-none : (n : ℕ) (b : Bus (Q .State)) → n ≡ 0 → run Q asked n b ≡ record { last = b; row = [] }
+  unfolding run
+  run-none n b e = rw e
+
   -- the controller is over after k ticks: any bound from k on gives the same run
   pub run-enough : (k n : ℕ) (b : Bus (Q .State)) → isOver (after Q asked k b .control .phase) ≡ true → k ≤ n → run Q asked n b ≡ run Q asked k b
   unfolding run after

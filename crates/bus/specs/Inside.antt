@@ -6,6 +6,7 @@ use mathlib.Core.List.{List, map}
 use lib.Dec.{eqb}
 use lib.ListN.{length, set, drop}
 use Rattle.lines.specs.Events.{eyeAfter}
+use Rattle.lines.specs.Records.{over}
 use Rattle.lines.specs.declared.Lines.{Lines}
 use Rattle.controller.specs.Symbols.{drives}
 use Rattle.controller.specs.Ticks.{Control, controlTick}
@@ -66,3 +67,9 @@ limit = 1099511627776
 abbrev pub busOn : (holds : List ℕ) → Bus → List Seated → (area : List ℕ) → (tick : ℕ) → Wires.Bus Spot
 busOn holds b xs area t =
     record { control = controlOf (b .control) area; holding = holdingOf (b .hold) holds; eye = b .eye; chips = map (bodyOf t) xs }
+
+-- what the code's loop leaves: the last bus of the run over places, its ticks, and its row over the lent trace
+pub record Went (list : List ℕ) (asked : ℕ) (start : Wires.Bus Spot) (lent : List ℕ) (last : Wires.Bus Spot) (ticks : ℕ) (trace : List ℕ) : Type 0 where
+  pub last-is : last ≡ Wires.run (places list) asked limit start .last
+  pub ticks-is : ticks ≡ length (Wires.run (places list) asked limit start .row)
+  pub trace-is : trace ≡ over (Wires.run (places list) asked limit start .row) lent
