@@ -8,13 +8,14 @@ use mathlib.Core.List.{List, [], _∷_, _++_, map}
 use lib.ListN.{length, getD, set, take, drop, length-append, length-drop, length-set}
 use lib.Seq.{length-take-le, take-all, take-suc, take-suc-set, set-getD}
 use Rattle.lines.specs.declared.Event.{Event}
-use Rattle.lines.specs.declared.Event.the-variants.{Bit}
+use Rattle.lines.specs.declared.Event.the-variants.{Quiet, Started, Stopped, Bit}
 use Rattle.eeprom.specs.Pages.{geometryOf}
 use Rattle.eeprom.specs.Stages.{Core, coreOf, sdaOf}
 use Rattle.eeprom.specs.declared.Model.{Model}
-use Rattle.eeprom.specs.declared.Stage.the-variants.{Deaf}
+use Rattle.eeprom.specs.declared.Stage.{Stage}
+use Rattle.eeprom.specs.declared.Stage.the-variants.{Deaf, Naming, Named, Taking, Taken, Sending, Asking}
 use Rattle.eeprom.proofs.Listening.{hears-model, deaf-to-bits}
-use Rattle.board.specs.Seats.{Seated, parted, sizeOf, seated, offset, heard, allUp}
+use Rattle.board.specs.Seats.{Seated, parted, sizeOf, seated, offset, heard, isDeaf, isBit, allUp}
 use Rattle.board.specs.declared.Seat.{Seat}
 use Rattle.board.proofs.Done.{done, done-length, done-step, done-end}
 use Rattle.board.proofs.Seated.{seated-length, seated-at, seated-set, offset-next, offset-set, offset-within}
@@ -24,6 +25,15 @@ use Rattle.board.proofs.Heard.{up-append}
 heard-size : (asked t : ℕ) (e : Event) (x : Seat) (m p : List ℕ) (y : Seat) → parted y p ≡ heard asked t e (parted x m) → sizeOf y ≡ sizeOf x
 heard-size asked t e x m p y h =
     ap (λ (s : Seated). geometryOf (s .seat .chip .store .model) .size) h ∙ ap (λ (k : Model). geometryOf k .size) (hears-model _ e (coreOf (x .chip) m))
+
+deaf-is : (s : Stage) → isDeaf s ≡ true → s ≡ Deaf
+deaf-is Deaf h = refl
+deaf-is (Naming n x) h = let z : _≡_ {A = ℕ} 0 1 = cc in absurd (omega arith)
+deaf-is (Named r) h = let z : _≡_ {A = ℕ} 0 1 = cc in absurd (omega arith)
+deaf-is (Taking n x) h = let z : _≡_ {A = ℕ} 0 1 = cc in absurd (omega arith)
+deaf-is Taken h = let z : _≡_ {A = ℕ} 0 1 = cc in absurd (omega arith)
+deaf-is (Sending n x) h = let z : _≡_ {A = ℕ} 0 1 = cc in absurd (omega arith)
+deaf-is Asking h = let z : _≡_ {A = ℕ} 0 1 = cc in absurd (omega arith)
 
 -- what the loop over the chips keeps: the first i have heard
 pub record Hearing (asked t : ℕ) (e : Event) (n i a : ℕ) (xs : List Seated) (cs : List Seat) (m : List ℕ) (up : Bool) : Type 0 where
@@ -96,9 +106,9 @@ module _ (asked t : ℕ) (e : Event) (n i a : ℕ) (xs : List Seated) (cs : List
           num4 a z l h = omega arith
 
   -- a deaf chip hears no bit: nothing of it changes, and it lets go of SDA
-  pub one-passed : getD cs i d .chip .stage ≡ Deaf → (b : Bool) → e ≡ Bit b → Hearing asked t e n (i + 1) (a + sizeOf (getD cs i d)) xs cs m up
+  one-deaf : getD cs i d .chip .stage ≡ Deaf → (b : Bool) → e ≡ Bit b → Hearing asked t e n (i + 1) (a + sizeOf (getD cs i d)) xs cs m up
   unfolding sdaOf
-  one-passed q b f =
+  one-deaf q b f =
       let x : Seated = parted (getD cs i d) (take (sizeOf (getD cs i d)) (drop a m)) in
       let same : heard asked t e x ≡ x =
               ap (λ (v : Event). heard asked t v x) f
@@ -120,6 +130,15 @@ module _ (asked t : ℕ) (e : Event) (n i a : ℕ) (xs : List Seated) (cs : List
       and-true : (v : Bool) → v && true ≡ v
       and-true true = refl
       and-true false = refl
+
+  pub one-passed : (x y : Bool) → x ≡ isDeaf (getD cs i d .chip .stage) → x ≡ true → y ≡ isBit e → y ≡ true → Hearing asked t e n (i + 1) (a + sizeOf (getD cs i d)) xs cs m up
+  one-passed x y p q r s = go e (sym r ∙ s) refl
+    where
+      go : (v : Event) → isBit v ≡ true → e ≡ v → Hearing asked t e n (i + 1) (a + sizeOf (getD cs i d)) xs cs m up
+      go Quiet h f = let z : _≡_ {A = ℕ} 0 1 = cc in absurd (omega arith)
+      go Started h f = let z : _≡_ {A = ℕ} 0 1 = cc in absurd (omega arith)
+      go Stopped h f = let z : _≡_ {A = ℕ} 0 1 = cc in absurd (omega arith)
+      go (Bit b) h f = one-deaf (deaf-is (getD cs i d .chip .stage) (sym p ∙ q)) b f
 
 -- the loop has gone over all
 pub all-have-heard : (asked t : ℕ) (e : Event) (n i a : ℕ) (xs : List Seated) (cs : List Seat) (m : List ℕ) (up : Bool) → Hearing asked t e n i a xs cs m up → i ≤ n → n ≤ i → length xs ≡ n

@@ -1,6 +1,6 @@
 -- Inside: the code's chips, side by side with their parts of the lent memory, as the rules' chips at a tick. No entry cites it. Assumes nothing.
 use Prim.Native.Nat.{ℕ, zero, suc, _+_, _-_, _*_}
-use mathlib.Core.Bool.{Bool, true, _&&_, cond}
+use mathlib.Core.Bool.{Bool, true, false, _&&_, cond}
 use mathlib.Core.List.{List, [], _∷_}
 use lib.Dec.{leb}
 use lib.ListN.{take, drop}
@@ -10,7 +10,8 @@ use Rattle.lines.specs.Levels.{bitAt}
 use Rattle.eeprom.specs.Pages.{geometryOf}
 use Rattle.eeprom.specs.Stages.{Core, Body, coreOf, due, hears, sdaOf}
 use Rattle.eeprom.specs.States.{keptAt, wordAt, wordBytes}
-use Rattle.eeprom.specs.declared.Stage.the-variants.{Deaf}
+use Rattle.eeprom.specs.declared.Stage.{Stage}
+use Rattle.eeprom.specs.declared.Stage.the-variants.{Deaf, Naming, Named, Taking, Taken, Sending, Asking}
 use Rattle.board.specs.Marks.{modelAt, placeOf}
 use Rattle.board.specs.declared.Seat.{Seat}
 
@@ -60,6 +61,22 @@ heard asked t e x =
       };
       memory = coreAt t e x .kept .memory;
     }
+
+-- a deaf chip hears no bit
+abbrev pub isDeaf : Stage → Bool
+isDeaf Deaf = true
+isDeaf (Naming n x) = false
+isDeaf (Named r) = false
+isDeaf (Taking n x) = false
+isDeaf Taken = false
+isDeaf (Sending n x) = false
+isDeaf Asking = false
+
+abbrev pub isBit : Event → Bool
+isBit Quiet = false
+isBit Started = false
+isBit Stopped = false
+isBit (Bit b) = true
 
 -- no chip drives SDA 0
 unfoldable pub allUp : List Seated → Bool

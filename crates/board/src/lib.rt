@@ -4,9 +4,10 @@ ghost use Prim.Native.Nat.{ℕ, _+_, _-_, _*_, _≤_, _<_};
 ghost use mathlib.Core.List.{List, []};
 ghost use lib.ListN.{length, take};
 ghost use Rattle.lines.specs.Records.{over};
+ghost use Rattle.eeprom.specs.Stages.{sdaOf};
 ghost use Rattle.board.specs.Marks.{chipCount, placeOf, bodies};
 ghost use Rattle.board.specs.Desk.{statesRight, boardNumber};
-ghost use Rattle.board.specs.Seats.{parted, freeAfter, heard, seatAt, seatsFrom, seatBytes, seatRow};
+ghost use Rattle.board.specs.Seats.{parted, sizeOf, isDeaf, isBit, freeAfter, heard, seatAt, seatsFrom, seatBytes, seatRow};
 use eeprom::Chip;
 use eeprom::MOST_BUSY;
 use eeprom::Model;
@@ -78,6 +79,42 @@ impl Seat {
         }
     }
 
+    // The size of its memory.
+    pub fn size(self) -> usize
+        ensures value { λ r. ⌜ r ≡ sizeOf self ⌝ }
+        ensures small { λ r. ⌜ r ≤ 4096 ⌝ }
+    {
+        let chip = self.chip;
+        let store = chip.store;
+        let model = store.model;
+        model.size() as usize
+    }
+
+    // What it drives on SDA.
+    pub fn sda(self) -> bool
+        ensures { λ r. ⌜ r ≡ sdaOf (self .chip .stage) ⌝ }
+    {
+        let chip = self.chip;
+        chip.sda()
+    }
+
+    // A deaf chip hears no bit: it need not be touched.
+    pub fn is_deaf(self) -> bool
+        ensures { λ r. ⌜ r ≡ isDeaf (self .chip .stage) ⌝ }
+    {
+        let chip = self.chip;
+        let stage = chip.stage;
+        match stage {
+            Stage::Deaf => true,
+            Stage::Naming(_, _) => false,
+            Stage::Named(_) => false,
+            Stage::Taking(_, _) => false,
+            Stage::Taken => false,
+            Stage::Sending(_, _) => false,
+            Stage::Asking => false,
+        }
+    }
+
     // Its four state bytes, at a tick.
     fn put(self, tick: usize, state: &mut [u8])
         ensures { λ _. ⌜ now (state .exit) ≡ over (seatBytes tick self []) (now (state .entry)) ⌝ }
@@ -94,6 +131,17 @@ fn busy_left(free: usize, tick: usize) -> usize
     ensures { λ r. ⌜ r ≡ free - tick ⌝ }
 {
     if tick < free { free - tick } else { 0 }
+}
+
+pub fn is_bit(event: Event) -> bool
+    ensures { λ r. ⌜ r ≡ isBit event ⌝ }
+{
+    match event {
+        Event::Quiet => false,
+        Event::Started => false,
+        Event::Stopped => false,
+        Event::Bit(_) => true,
+    }
 }
 
 // The chip at a strap, before the first tick.

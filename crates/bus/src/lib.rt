@@ -9,8 +9,9 @@ ghost use Rattle.controller.specs.Cursor.{controlOf, places};
 ghost use Rattle.controller.specs.Ticks.{controlTick};
 ghost use Rattle.board.specs.Seats.{seated, offset, allUp};
 ghost use Rattle.bus.specs.Holding.{holdTick};
-ghost use Rattle.bus.specs.Inside.{holdingOf, busLines, busSees, phaseRest, restOf, restedOf, filled, limit};
+ghost use Rattle.bus.specs.Inside.{holdingOf, busLines, busSees, phaseRest, restOf, restedOf, filled, busOn, Went};
 use board::Seat;
+use board::is_bit;
 use controller::Begin;
 use controller::Controller;
 use controller::Phase;
@@ -201,5 +202,88 @@ fn fill(trace: &mut [u8], from: usize, count: usize)
         put_at(trace, i, 3);
         i += 1;
         n -= 1;
+    }
+}
+
+// The run's end, its ticks, and the chips.
+pub struct Ran {
+    pub bus: Bus,
+    pub ticks: usize,
+    pub seats: [Seat; 8],
+}
+
+// Ticks until the controller is over. The chips hear an event once it is found, a deaf one no bit; a wait is passed at once.
+pub fn goes(
+    start: Bus,
+    at: [Seat; 8],
+    n: usize,
+    asked: u16,
+    list: &[u8],
+    holds: &[u8],
+    memory: &mut [u8],
+    area: &mut [u8],
+    trace: &mut [u8],
+) -> Ran
+    requires { ⌜ (n ≤ 8) × (length (now memory) ≡ offset n at) × (start .up ≡ allUp (seated n at (now memory))) ⌝ }
+    ensures went { λ r. ⌜ Went (now (list .entry)) asked
+        (busOn (now (holds .entry)) start (seated n at (now (memory .entry))) (now (area .entry)) 0) (now (trace .entry))
+        (busOn (now (holds .entry)) (r .bus) (seated n (r .seats) (now (memory .exit))) (now (area .exit)) (r .ticks)) (r .ticks) (now (trace .exit)) ⌝ }
+    ensures fits { λ r. ⌜ length (now (memory .exit)) ≡ offset n (r .seats) ⌝ }
+{
+    let mut bus = start;
+    let mut seats = at;
+    let mut t = 0;
+    while t < LIMIT {
+        if bus.is_over() {
+            return Ran {
+                bus: bus,
+                ticks: t,
+                seats: seats,
+            };
+        }
+        let k = bus.calm();
+        if 0 < k {
+            if k <= LIMIT - t {
+                fill(trace, t, k);
+                bus = bus.rested();
+                t += k;
+                continue;
+            }
+        }
+        let seen = bus.lines();
+        let event = bus.event(seen);
+        put_at(trace, t, seen.byte());
+        bus = bus.tick(seen, list, holds, area);
+        if event.is_quiet() {
+            t += 1;
+            continue;
+        }
+        let bit = is_bit(event);
+        let mut up = true;
+        let mut a = 0;
+        let mut i = 0;
+        while i < n {
+            let seat = seats[i];
+            let e = a + seat.size();
+            if bit {
+                if seat.is_deaf() {
+                    a = e;
+                    i += 1;
+                    continue;
+                }
+            }
+            let next = seat.hear(event, t, asked, &mut memory[a..e]);
+            up = up & next.sda();
+            seats[i] = next;
+            a = e;
+            i += 1;
+        }
+        bus.up = up;
+        t += 1;
+    }
+    Ran {
+        bus: bus,
+        ticks: t,
+        seats: seats,
     }
 }
