@@ -20,8 +20,10 @@ free-is f t = go (leb f t) refl
   where
     yes-free : (f t : ℕ) → f ≤ t → f - t ≡ 0
     yes-free f t h = omega arith
+
     not-free : (f t : ℕ) → t < f → f - t ≡ 0 → ⊥
     not-free f t h e = omega arith
+
     go : (b : Bool) → leb f t ≡ b → eqb (f - t) 0 ≡ b
     go true e = eq-eqb (f - t) 0 (yes-free f t (leb-true f t e))
     go false e = ne-eqb (f - t) 0 (not-free f t (leb-false f t e))

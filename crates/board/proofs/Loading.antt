@@ -113,6 +113,7 @@ module _ (marks : ℕ) (memory states : List ℕ) where
     where
       size : ℕ
       size = geometryOf Large .size
+
       go : (b : Bool) → bitAt s marks ≡ b
           → map (bodyOf 0) (seated (length (seats n (suc s))) (seats n (suc s)) (drop (memoryAt marks (suc s)) memory)) ≡ bodiesFrom marks memory states n (suc s)
           → map (bodyOf 0) (seated (length (cond b (seatAt marks states s ∷ seats n (suc s)) (seats n (suc s)))) (cond b (seatAt marks states s ∷ seats n (suc s)) (seats n (suc s)))
@@ -134,8 +135,10 @@ module _ (marks : ℕ) (memory states : List ℕ) where
     where
       num : (n s : ℕ) → n + suc s ≡ suc n + s
       num n s = omega arith
+
       num2 : (a b c d : ℕ) → a + b + c ≡ d → b + (a + c) ≡ d
       num2 a b c d h = omega arith
+
       go : (b : Bool) → bitAt s marks ≡ b → memoryAt marks (suc s) + offset (length (seats n (suc s))) (seats n (suc s)) ≡ memoryAt marks (suc n + s)
           → memoryAt marks s + offset (length (cond b (seatAt marks states s ∷ seats n (suc s)) (seats n (suc s)))) (cond b (seatAt marks states s ∷ seats n (suc s)) (seats n (suc s))) ≡ memoryAt marks (suc n + s)
       go true e h = num2 (geometryOf Large .size) (memoryAt marks s) _ _ (ap (λ (k : ℕ). k + offset (length (seats n (suc s))) (seats n (suc s))) (sym (memory-with s e)) ∙ h)

@@ -20,6 +20,7 @@ low-word p n m e = rw e (ap₂ (λ (a b : ℕ). wordBytes p (a ∷ b ∷ [])) (l
   where
     low : (n : ℕ) → n % 65536 % 256 ≡ n % 256
     low n = omega arith
+
     high : (n : ℕ) → n % 65536 / 256 % 256 ≡ n / 256 % 256
     high n = omega arith
 
@@ -56,17 +57,20 @@ one-saved t n i xs st p d so-far l h r e =
     let w : p ≡ seatBytes t (getD xs i d) [] = e ∙ over-whole (seatBytes t (getD xs i d) []) (take 4 (drop (i * 4) st)) (sym q) in
     let f : length (take (i * 4) st ++ p) ≡ (i + 1) * 4 = length-append (take (i * 4) st) p ∙ ap₂ _+_ (length-take-le (i * 4) st (num2 i n (length st) l h)) (ap length w) ∙ num3 i in
     let g : take ((i + 1) * 4) (take (i * 4) st ++ (p ++ drop 4 (drop (i * 4) st))) ≡ take (i * 4) st ++ p =
-            ap (take ((i + 1) * 4)) (sym (append-assoc (take (i * 4) st) p (drop 4 (drop (i * 4) st)))) ∙ take-at (take (i * 4) st ++ p) (drop 4 (drop (i * 4) st)) ((i + 1) * 4) f in
+    ap (take ((i + 1) * 4)) (sym (append-assoc (take (i * 4) st) p (drop 4 (drop (i * 4) st)))) ∙ take-at (take (i * 4) st ++ p) (drop 4 (drop (i * 4) st)) ((i + 1) * 4) f in
     rw (g, append-assoc, w)
     (ap (λ (k : ℕ). take (i * 4) st ++ seatBytes t (getD xs i d) (seatRow t (n - k) (drop k xs))) (add-one i)
     ∙ ap (λ (m : List ℕ). take (i * 4) st ++ m) (sym (row-from t n i xs st d h (num4 i n (length xs) h r))) ∙ so-far)
   where
     num1 : (i n l : ℕ) → l ≡ 4 * n → i < n → 4 ≤ l - i * 4
     num1 i n l e h = omega arith
+
     num2 : (i n l : ℕ) → l ≡ 4 * n → i < n → i * 4 ≤ l
     num2 i n l e h = omega arith
+
     num3 : (i : ℕ) → i * 4 + 4 ≡ (i + 1) * 4
     num3 i = omega arith
+
     num4 : (i n l : ℕ) → i < n → n ≤ l → i < l
     num4 i n l h r = omega arith
 

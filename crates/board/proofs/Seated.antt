@@ -72,14 +72,20 @@ seated-set zero (suc n) (c ∷ cs) m p y d h l s e r =
 seated-set (suc i) (suc n) (c ∷ cs) m p y d h l s e r =
     let g : length (take (sizeOf c) m) ≡ sizeOf c = length-take-le (sizeOf c) m (num (sizeOf c) (offset i cs) (sizeOf y) (length m) r) in
     let t : List ℕ = take (offset i cs) (drop (sizeOf c) m) ++ (p ++ drop (sizeOf y) (drop (sizeOf c + offset i cs) m)) in
-    rw (take-add (sizeOf c) (offset i cs) m, append-assoc, take-at (take (sizeOf c) m) t (sizeOf c) g, drop-at (take (sizeOf c) m) t (sizeOf c) g,
-      ← drop-drop (offset i cs) (sizeOf c) m)
+    rw (
+      take-add (sizeOf c) (offset i cs) m,
+      append-assoc,
+      take-at (take (sizeOf c) m) t (sizeOf c) g,
+      drop-at (take (sizeOf c) m) t (sizeOf c) g,
+      ← drop-drop (offset i cs) (sizeOf c) m,
+    )
     (ap (λ (l : List Seated). parted c (take (sizeOf c) m) ∷ l)
     (seated-set i n cs (drop (sizeOf c) m) p y d (suc-le-suc-iff .0 h) (suc-le-suc-iff .0 l) s e
     (rw length-drop (num2 (sizeOf c) (offset i cs) (sizeOf y) (length m) r))))
   where
     num : (a b z l : ℕ) → a + b + z ≤ l → a ≤ l
     num a b z l h = omega arith
+
     num2 : (a b z l : ℕ) → a + b + z ≤ l → b + z ≤ l - a
     num2 a b z l h = omega arith
 

@@ -77,14 +77,14 @@ module _ (asked t : ℕ) (e : Event) (n i a : ℕ) (xs : List Seated) (cs : List
       let k : length (take (sizeOf (getD cs i d)) (drop a m)) ≡ sizeOf (getD cs i d) = length-take-le (sizeOf (getD cs i d)) (drop a m) (rw length-drop (num a (sizeOf (getD cs i d)) (length m) part-fits)) in
       let z : length p ≡ sizeOf y = l ∙ k ∙ sym s in
       let c : seated n (set cs i y) (take a m ++ (p ++ drop (sizeOf (getD cs i d)) (drop a m))) ≡ set (seated n cs m) i (parted y p) =
-              ap₂ (λ (o q : ℕ). seated n (set cs i y) (take o m ++ (p ++ drop q (drop o m)))) (so-far .begins) (sym s)
-              ∙ seated-set i n cs m p y d below (so-far .room) s z (num2 (offset i cs) a (sizeOf (getD cs i d)) (sizeOf y) (length m) (so-far .begins) s part-fits) in
+      ap₂ (λ (o q : ℕ). seated n (set cs i y) (take o m ++ (p ++ drop q (drop o m)))) (so-far .begins) (sym s)
+      ∙ seated-set i n cs m p y d below (so-far .room) s z (num2 (offset i cs) a (sizeOf (getD cs i d)) (sizeOf y) (length m) (so-far .begins) s part-fits) in
       let i-in : i < length (seated n cs m) = rw (seated-length n cs m (so-far .room)) below in
       record {
         heard-so-far = c ∙ done-step (heard asked t e) i xs (seated n cs m) (parted y p) (parted d []) (so-far .heard-so-far)
-        (h ∙ ap (heard asked t e) (sym (part-is (parted d [])))) (rw xs-length below);
+            (h ∙ ap (heard asked t e) (sym (part-is (parted d [])))) (rw xs-length below);
         up-so-far = ap₂ _&&_ (so-far .up-so-far) v ∙ sym (up-append (take i (seated n cs m)) (parted y p))
-        ∙ ap allUp (sym (take-suc-set (seated n cs m) i (parted y p) i-in)) ∙ ap₂ (λ (o : ℕ) (q : List Seated). allUp (take o q)) (sym (add-one i)) (sym c);
+            ∙ ap allUp (sym (take-suc-set (seated n cs m) i (parted y p) i-in)) ∙ ap₂ (λ (o : ℕ) (q : List Seated). allUp (take o q)) (sym (add-one i)) (sym c);
         begins = ap (λ (o : ℕ). o + sizeOf (getD cs i d)) (so-far .begins) ∙ sym (offset-next i cs d in-list) ∙ sym (offset-set (suc i) i cs y d s) ∙ ap (λ (o : ℕ). offset o (set cs i y)) (sym (add-one i));
         fits = same a p m (sizeOf (getD cs i d)) (l ∙ k) part-fits ∙ so-far .fits ∙ sym (offset-set n i cs y d s);
         room = rw length-set (so-far .room);
@@ -92,16 +92,25 @@ module _ (asked t : ℕ) (e : Event) (n i a : ℕ) (xs : List Seated) (cs : List
     where
       num : (a z l : ℕ) → a + z ≤ l → z ≤ l - a
       num a z l h = omega arith
+
       num2 : (o a z y l : ℕ) → a ≡ o → y ≡ z → a + z ≤ l → o + y ≤ l
       num2 o a z y l e f h = omega arith
+
       same : (a : ℕ) (p m : List ℕ) (z : ℕ) → length p ≡ z → a + z ≤ length m → length (take a m ++ (p ++ drop z (drop a m))) ≡ length m
       same a p m z e h =
-          rw (length-append (take a m) (p ++ drop z (drop a m)), length-append p (drop z (drop a m)), length-drop z (drop a m), length-drop a m, e,
-            length-take-le a m (num3 a z (length m) h))
+          rw (
+            length-append (take a m) (p ++ drop z (drop a m)),
+            length-append p (drop z (drop a m)),
+            length-drop z (drop a m),
+            length-drop a m,
+            e,
+            length-take-le a m (num3 a z (length m) h),
+          )
           (num4 a z (length m) h)
         where
           num3 : (a z l : ℕ) → a + z ≤ l → a ≤ l
           num3 a z l h = omega arith
+
           num4 : (a z l : ℕ) → a + z ≤ l → a + (z + (l - a - z)) ≡ l
           num4 a z l h = omega arith
 
@@ -111,17 +120,17 @@ module _ (asked t : ℕ) (e : Event) (n i a : ℕ) (xs : List Seated) (cs : List
   one-deaf q b f =
       let x : Seated = parted (getD cs i d) (take (sizeOf (getD cs i d)) (drop a m)) in
       let same : heard asked t e x ≡ x =
-              ap (λ (v : Event). heard asked t v x) f
-              ∙ ap (λ (c : Core). parted (record { chip = record { stage = c .stage; store = c .kept .store }; free = getD cs i d .free }) (c .kept .memory)) (deaf-to-bits _ b (coreOf (getD cs i d .chip) (x .memory)) q) in
+      ap (λ (v : Event). heard asked t v x) f
+      ∙ ap (λ (c : Core). parted (record { chip = record { stage = c .stage; store = c .kept .store }; free = getD cs i d .free }) (c .kept .memory)) (deaf-to-bits _ b (coreOf (getD cs i d .chip) (x .memory)) q) in
       let i-in : i < length (seated n cs m) = rw (seated-length n cs m (so-far .room)) below in
       record {
         heard-so-far = sym (set-getD (seated n cs m) i (parted d []))
-        ∙ done-step (heard asked t e) i xs (seated n cs m) (getD (seated n cs m) i (parted d [])) (parted d []) (so-far .heard-so-far)
-        (part-is (parted d []) ∙ sym same ∙ ap (heard asked t e) (sym (part-is (parted d [])))) (rw xs-length below);
+            ∙ done-step (heard asked t e) i xs (seated n cs m) (getD (seated n cs m) i (parted d [])) (parted d []) (so-far .heard-so-far)
+            (part-is (parted d []) ∙ sym same ∙ ap (heard asked t e) (sym (part-is (parted d [])))) (rw xs-length below);
         up-so-far = so-far .up-so-far ∙ sym (and-true (allUp (take i (seated n cs m))))
-        ∙ ap (λ (v : Bool). allUp (take i (seated n cs m)) && v) (sym (ap (λ (s : Seated). sdaOf (s .seat .chip .stage)) (part-is (parted d [])) ∙ ap sdaOf q))
-        ∙ sym (up-append (take i (seated n cs m)) (getD (seated n cs m) i (parted d [])))
-        ∙ ap allUp (sym (take-suc (seated n cs m) i (parted d []) i-in)) ∙ ap (λ (o : ℕ). allUp (take o (seated n cs m))) (sym (add-one i));
+            ∙ ap (λ (v : Bool). allUp (take i (seated n cs m)) && v) (sym (ap (λ (s : Seated). sdaOf (s .seat .chip .stage)) (part-is (parted d [])) ∙ ap sdaOf q))
+            ∙ sym (up-append (take i (seated n cs m)) (getD (seated n cs m) i (parted d [])))
+            ∙ ap allUp (sym (take-suc (seated n cs m) i (parted d []) i-in)) ∙ ap (λ (o : ℕ). allUp (take o (seated n cs m))) (sym (add-one i));
         begins = ap (λ (o : ℕ). o + sizeOf (getD cs i d)) (so-far .begins) ∙ sym (offset-next i cs d in-list) ∙ ap (λ (o : ℕ). offset o cs) (sym (add-one i));
         fits = so-far .fits;
         room = so-far .room;
@@ -140,9 +149,29 @@ module _ (asked t : ℕ) (e : Event) (n i a : ℕ) (xs : List Seated) (cs : List
       go Stopped h f = let z : _≡_ {A = ℕ} 0 1 = cc in absurd (omega arith)
       go (Bit b) h f = one-deaf (deaf-is (getD cs i d .chip .stage) (sym p ∙ q)) b f
 
+  -- the same in the code's words, with the size as it was asked for
+  module _ (z : ℕ) (size-is : z ≡ sizeOf (getD cs i d)) where
+    length-is : a + z - a ≡ sizeOf (getD cs i d)
+    length-is = num a z ∙ size-is
+      where
+        num : (a z : ℕ) → a + z - a ≡ z
+        num a z = omega arith
+
+    pub part-ends : a + z ≤ length m
+    part-ends = rw size-is part-fits
+
+    pub passes-one : (x y : Bool) → x ≡ isDeaf (getD cs i d .chip .stage) → x ≡ true → y ≡ isBit e → y ≡ true → Hearing asked t e n (i + 1) (a + z) xs cs m up
+    passes-one x y p q r s = rw size-is (one-passed x y p q r s)
+
+    pub hears-one : (y : Seat) (p : List ℕ) (b : Bool) → parted y p ≡ heard asked t e (parted (getD cs i d) (take (a + z - a) (drop a m)))
+        → length p ≡ length (take (a + z - a) (drop a m)) → b ≡ sdaOf (y .chip .stage)
+        → Hearing asked t e n (i + 1) (a + z) xs (set cs i y) (take a m ++ (p ++ drop (a + z - a) (drop a m))) (up && b)
+    hears-one y p b h l v = rw (length-is, size-is) (one-heard y p b (rw length-is at h) (rw length-is at l) v)
+
 -- the loop has gone over all
 pub all-have-heard : (asked t : ℕ) (e : Event) (n i a : ℕ) (xs : List Seated) (cs : List Seat) (m : List ℕ) (up : Bool) → Hearing asked t e n i a xs cs m up → i ≤ n → n ≤ i → length xs ≡ n
     → (seated n cs m ≡ map (heard asked t e) xs) × (up ≡ allUp (seated n cs m))
-all-have-heard asked t e n i a xs cs m up h l r s =
-    (done-end (heard asked t e) i xs (seated n cs m) (h .heard-so-far) (rw s r),
-      h .up-so-far ∙ ap allUp (take-all i (seated n cs m) (rw (seated-length n cs m (h .room)) r)))
+all-have-heard asked t e n i a xs cs m up h l r s = (
+  done-end (heard asked t e) i xs (seated n cs m) (h .heard-so-far) (rw s r),
+  h .up-so-far ∙ ap allUp (take-all i (seated n cs m) (rw (seated-length n cs m (h .room)) r)),
+)

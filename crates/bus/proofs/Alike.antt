@@ -41,12 +41,12 @@ module _ (Q R : Plan) (asked : ℕ) (Alike : Control (Q .State) → Control (R .
       let l = same-lines b e s in
       record {
         control = subst (λ (x : Lines). Alike (controlTick Q (linesOn Q asked b) (b .control)) (controlTick R x (e .control))) l
-        (ticks (linesOn Q asked b) (b .control) (e .control) (s .control));
+            (ticks (linesOn Q asked b) (b .control) (e .control) (s .control));
         holding = ap₂ (λ (y : Eye) (x : Lines). holdTick (y .past .scl) (x .scl) (b .holding)) (s .eye) l
-        ∙ ap (λ (h : Holding). holdTick (e .eye .past .scl) (linesOn R asked e .scl) h) (s .holding);
+            ∙ ap (λ (h : Holding). holdTick (e .eye .past .scl) (linesOn R asked e .scl) h) (s .holding);
         eye = ap₂ eyeAfter (s .eye) l;
         chips = ap₂ (λ (y : Eye) (x : Lines). map (bodyTick asked (eventOf y x)) (b .chips)) (s .eye) l
-        ∙ ap (map (bodyTick asked (eventOf (e .eye) (linesOn R asked e)))) (s .chips);
+            ∙ ap (map (bodyTick asked (eventOf (e .eye) (linesOn R asked e)))) (s .chips);
       }
 
   pub record SameRun (p : Ran Q asked) (r : Ran R asked) : Type 0 where

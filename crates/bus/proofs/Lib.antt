@@ -3,3 +3,4 @@ pub mod Alike
 pub mod Holds
 pub mod Turns
 pub mod Waits
+pub mod Indices

@@ -70,13 +70,13 @@ module _ (list holds : List ℕ) (asked l : ℕ) (was : Bool) (cursor : Cursor) 
   unfolding controlTick faultOf
   one-tick n trace t inv lt =
       turn list holds asked l (calm (Waiting (suc n)) was cursor next noted) (calm (Waiting n) was cursor next noted) xs xs area area trace (set trace t 3) t f false _ 3 inv up refl refl refl refl refl
-      (record { control = refl; hold = refl; eye = refl; up = refl }) (none-heard asked t Quiet refl xs) lt
+      (record { control = refl; hold = refl; eye = refl }) (none-heard asked t Quiet refl xs) lt
 
   last-tick : (trace : List ℕ) (t : ℕ) → left (Waiting 0) trace t ≡ f → t < l → left (Zero (Start First)) (set trace t 3) (t + 1) ≡ f
   unfolding controlTick faultOf
   last-tick trace t inv lt =
       turn list holds asked l (calm (Waiting 0) was cursor next noted) (calm (Zero (Start First)) was cursor next noted) xs xs area area trace (set trace t 3) t f false _ 3 inv up refl refl refl refl refl
-      (record { control = refl; hold = refl; eye = refl; up = refl }) (none-heard asked t Quiet refl xs) lt
+      (record { control = refl; hold = refl; eye = refl }) (none-heard asked t Quiet refl xs) lt
 
   rests : (n : ℕ) (trace : List ℕ) (t : ℕ) → left (Waiting n) trace t ≡ f → t + suc n ≤ l → left (Zero (Start First)) (filled (suc n) t trace) (t + suc n) ≡ f
   unfolding filled
@@ -86,10 +86,13 @@ module _ (list holds : List ℕ) (asked l : ℕ) (was : Bool) (cursor : Cursor) 
     where
       num1 : (t : ℕ) → suc t ≡ t + 1
       num1 t = omega arith
+
       num2 : (t n : ℕ) → t + suc (suc n) ≡ t + 1 + suc n
       num2 t n = omega arith
+
       num3 : (t n l : ℕ) → t + suc (suc n) ≤ l → t < l
       num3 t n l h = omega arith
+
       num4 : (t n l : ℕ) → t + suc (suc n) ≤ l → t + 1 + suc n ≤ l
       num4 t n l h = omega arith
 
@@ -101,7 +104,7 @@ pub jump : (list holds : List ℕ) (asked l : ℕ) (b r : Bus) (xs : List Seated
 jump list holds asked l b r xs area trace trace′ t zero f inv u e p c h m = absurd (omega arith)
 jump list holds asked l b r xs area trace trace′ t (suc n) f inv u e p c h m =
     let i : b ≡ calm (Waiting n) (b .control .was) (b .control .cursor) (b .hold .next) (b .eye .noted) =
-            calm-in (b .control .phase) (b .control .was) (b .control .cursor) (b .hold .left) (b .hold .next) (b .eye .past .scl) (b .eye .past .sda) (b .eye .noted) (b .up) n e in
+    calm-in (b .control .phase) (b .control .was) (b .control .cursor) (b .hold .left) (b .hold .next) (b .eye .past .scl) (b .eye .past .sda) (b .eye .noted) (b .up) n e in
     let j : r ≡ calm (Zero (Start First)) (b .control .was) (b .control .cursor) (b .hold .next) (b .eye .noted) = c ∙ ap restedOf i in
     let v : true ≡ allUp xs = sym (ap (λ (x : Bus). x .up) i) ∙ u in
     ap₂ (λ (x : Bus) (tr : List ℕ). finish list holds asked (t + suc n) (run (places list) asked (l - (t + suc n)) (busOn holds x xs area (t + suc n))) tr) j p

@@ -28,12 +28,11 @@ holdingOf h holds = record { left = h .left; list = drop (h .next) holds }
 abbrev pub busLines : Bus → Lines
 busLines b = Wires.joined (drives (b .control .phase) (b .control .was)) (b .hold .left) (b .up)
 
--- what the lines make of all but the chips
+-- what the lines make of all but the chips, and of what those drive
 pub record busSees (list holds : List ℕ) (seen : Lines) (b : Bus) (area : List ℕ) (r : Bus) (after : List ℕ) : Type 0 where
   pub control : controlOf (r .control) after ≡ controlTick (places list) seen (controlOf (b .control) area)
   pub hold : holdingOf (r .hold) holds ≡ holdTick (b .eye .past .scl) (seen .scl) (holdingOf (b .hold) holds)
   pub eye : r .eye ≡ eyeAfter (b .eye) seen
-  pub up : r .up ≡ b .up
 
 -- a wait passed at once
 

@@ -129,7 +129,8 @@ impl Bus {
 
     // All but the chips see the lines.
     fn tick(self, seen: Lines, list: &[u8], holds: &[u8], area: &mut [u8]) -> Bus
-        ensures { λ r. ⌜ busSees (now (list .entry)) (now (holds .entry)) seen self (now (area .entry)) r (now (area .exit)) ⌝ }
+        ensures sees { λ r. ⌜ busSees (now (list .entry)) (now (holds .entry)) seen self (now (area .entry)) r (now (area .exit)) ⌝ }
+        ensures up { λ r. ⌜ r .up ≡ self .up ⌝ }
     {
         let control = self.control;
         let hold = self.hold;

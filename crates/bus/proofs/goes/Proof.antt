@@ -1,232 +1,43 @@
+-- `bus::goes` meets its contract: what is left to run from here does not change, turn by turn. A wait passed at once, a quiet tick and a tick in which the
+-- chips hear are one law each. Assumes nothing.
+use Prim.Native.Nat.{_+_, _-_, _*_, _≤_, _<_, zero-le}
+use native.Mathlib.Nat.{le-add-right}
+use denote.Ref.{now}
+use mathlib.Core.Path.{_≡_, refl, ap, sym, _∙_}
+use native.Mathlib.Omega.{arith}
+use lib.ListN.{length, length-set}
+use borrow.Author.Needs.{needs}
+use borrow.Rule.Slice.PartMut.{same-len-mid}
+use Rattle.controller.specs.Cursor.{places}
+use Rattle.board.specs.Seats.{seated, offset, allUp}
+use Rattle.board.proofs.Heard.{all-heard, none-heard}
+use Rattle.board.proofs.Seated.{seated-length}
+use Rattle.board.proofs.Turns.{Hearing, none-heard-yet, part-ends, passes-one, hears-one, all-have-heard}
+use Rattle.bus.specs.Wires.{run}
+use Rattle.bus.specs.Inside.{limit, busOn}
+use Rattle.bus.specs.declared.Bus.{Bus}
+use Rattle.bus.proofs.Turns.{finish, turn, ends-over, ends-late}
+use Rattle.bus.proofs.Waits.{jump}
+use Rattle.bus.proofs.Indices.{index-fits, index-below, end-fits, next-fits, next-less, next-within, next-bound}
 use Rattle.bus.proofs.goes.Statement.{statement}
 use Rattle.bus.proofs.goes.Tie as tie
-use Rattle.bus.proofs.goes.Reads as reads
-use Rattle.bus.proofs.goes.Lts as lts
-use Rattle.board.proofs.Seat.hear.Reads as hear-reads
-use Rattle.board.proofs.Seat.is_deaf.Reads as is-deaf-reads
-use Rattle.board.proofs.Seat.sda.Reads as sda-reads
-use Rattle.board.proofs.Seat.size.Reads as size-reads
-use Rattle.board.proofs.is_bit.Reads as is-bit-reads
-use Rattle.bus.proofs.Bus.calm.Reads as calm-reads
-use Rattle.bus.proofs.Bus.event.Reads as event-reads
-use Rattle.bus.proofs.Bus.is_over.Reads as is-over-reads
-use Rattle.bus.proofs.Bus.lines.Reads as lines-reads
-use Rattle.bus.proofs.Bus.rested.Reads as rested-reads
-use Rattle.bus.proofs.Bus.tick.Reads as tick-reads
-use Rattle.bus.proofs.fill.Reads as fill-reads
-use Rattle.lines.proofs.Event.is_quiet.Reads as is-quiet-reads
-use Rattle.lines.proofs.Lines.byte.Reads as byte-reads
-use Rattle.lines.proofs.put_at.Reads as put-at-reads
 
 abbrev Inv-loop2 : tie.InvT-loop2
 Inv-loop2 n asked list holds memory₀ area trace bus seats₀ t k event bit up₀ a₀ i₀ memory seats up a i =
-    ?
+    (i ≤ n) × (length memory ≡ length memory₀) × (length seats ≡ 8) × (a ≤ 4096 * i) × Hearing asked t event n i a (seated n seats₀ memory₀) seats memory up
 
 abbrev μ-loop2 : tie.MeasureT-loop2
-μ-loop2 n asked list holds memory₀ area trace bus seats₀ t k event bit up₀ a₀ i₀ memory seats up a i =
-    ?
+μ-loop2 n asked list holds memory₀ area trace bus seats₀ t k event bit up₀ a₀ i₀ memory seats up a i = n - i
 
 abbrev Inv-loop : tie.InvT-loop
-Inv-loop n asked list holds memory₀ area₀ trace₀ bus₀ seats₀ t₀ memory area trace bus seats t = ?
+Inv-loop n asked list holds memory₀ area₀ trace₀ bus₀ seats₀ t₀ memory area trace bus seats t =
+    (length memory ≡ length memory₀) × (length area ≡ length area₀) × (length trace ≡ length trace₀) × (length seats ≡ 8)
+    × (bus .up ≡ allUp (seated n seats memory)) × (length memory ≡ offset n seats)
+    × (finish list holds asked t (run (places list) asked (limit - t) (busOn holds bus (seated n seats memory) area t)) trace
+    ≡ finish list holds asked 0 (run (places list) asked limit (busOn holds bus₀ (seated n seats₀ memory₀) area₀ 0)) trace₀)
 
 abbrev μ-loop : tie.MeasureT-loop
-μ-loop n asked list holds memory₀ area₀ trace₀ bus₀ seats₀ t₀ memory area trace bus seats t = ?
-
--- src/lib.rt:236:5
-loop-holds : tie.Need-loop-holds Inv-loop2 μ-loop2 Inv-loop μ-loop
-loop-holds c = ?
-
--- src/lib.rt:237:12
-is-over-requires : tie.Need-is-over-requires Inv-loop2 μ-loop2 Inv-loop μ-loop
-is-over-requires c κs = ?
-
--- src/lib.rt:238:13
-same-length : tie.Need-same-length Inv-loop2 μ-loop2 Inv-loop μ-loop
-same-length c = ?
-
--- src/lib.rt:238:13
-same-length-2 : tie.Need-same-length-2 Inv-loop2 μ-loop2 Inv-loop μ-loop
-same-length-2 c = ?
-
--- src/lib.rt:238:13
-same-length-3 : tie.Need-same-length-3 Inv-loop2 μ-loop2 Inv-loop μ-loop
-same-length-3 c = ?
-
--- src/lib.rt:238:13
-returns : tie.Need-returns Inv-loop2 μ-loop2 Inv-loop μ-loop
-returns c = ?
-
--- src/lib.rt:244:13
-calm-requires : tie.Need-calm-requires Inv-loop2 μ-loop2 Inv-loop μ-loop
-calm-requires c κs = ?
-
--- src/lib.rt:246:21
-sub-if3 : tie.Need-sub-if3 Inv-loop2 μ-loop2 Inv-loop μ-loop
-sub-if3 c = ?
-
--- src/lib.rt:247:17
-fill-requires : tie.Need-fill-requires Inv-loop2 μ-loop2 Inv-loop μ-loop
-fill-requires c κs = ?
-
--- src/lib.rt:248:17
-rested-requires : tie.Need-rested-requires Inv-loop2 μ-loop2 Inv-loop μ-loop
-rested-requires c κs = ?
-
--- src/lib.rt:249:17
-add-t : tie.Need-add-t Inv-loop2 μ-loop2 Inv-loop μ-loop
-add-t c = ?
-
--- src/lib.rt:236:5
-loop-less : tie.Need-loop-less Inv-loop2 μ-loop2 Inv-loop μ-loop
-loop-less c = ?
-
--- src/lib.rt:236:5
-loop-again : tie.Need-loop-again Inv-loop2 μ-loop2 Inv-loop μ-loop
-loop-again c = ?
-
--- src/lib.rt:253:13
-lines-requires : tie.Need-lines-requires Inv-loop2 μ-loop2 Inv-loop μ-loop
-lines-requires c κs = ?
-
--- src/lib.rt:254:13
-event-requires : tie.Need-event-requires Inv-loop2 μ-loop2 Inv-loop μ-loop
-event-requires c κs = ?
-
--- src/lib.rt:255:26
-byte-requires : tie.Need-byte-requires Inv-loop2 μ-loop2 Inv-loop μ-loop
-byte-requires c κs = ?
-
--- src/lib.rt:255:9
-put-at-requires : tie.Need-put-at-requires Inv-loop2 μ-loop2 Inv-loop μ-loop
-put-at-requires c κs = ?
-
--- src/lib.rt:256:9
-tick-requires : tie.Need-tick-requires Inv-loop2 μ-loop2 Inv-loop μ-loop
-tick-requires c κs = ?
-
--- src/lib.rt:257:12
-is-quiet-requires : tie.Need-is-quiet-requires Inv-loop2 μ-loop2 Inv-loop μ-loop
-is-quiet-requires c κs = ?
-
--- src/lib.rt:258:13
-add-t-2 : tie.Need-add-t-2 Inv-loop2 μ-loop2 Inv-loop μ-loop
-add-t-2 c = ?
-
--- src/lib.rt:236:5
-loop-less-2 : tie.Need-loop-less-2 Inv-loop2 μ-loop2 Inv-loop μ-loop
-loop-less-2 c = ?
-
--- src/lib.rt:236:5
-loop-again-2 : tie.Need-loop-again-2 Inv-loop2 μ-loop2 Inv-loop μ-loop
-loop-again-2 c = ?
-
--- src/lib.rt:261:13
-is-bit-requires : tie.Need-is-bit-requires Inv-loop2 μ-loop2 Inv-loop μ-loop
-is-bit-requires c κs = ?
-
--- src/lib.rt:265:9
-loop2-holds : tie.Need-loop2-holds Inv-loop2 μ-loop2 Inv-loop μ-loop
-loop2-holds c = ?
-
--- src/lib.rt:266:24
-mul-seat : tie.Need-mul-seat Inv-loop2 μ-loop2 Inv-loop μ-loop
-mul-seat c = ?
-
--- src/lib.rt:266:24
-array-copy-out-seat : tie.Need-array-copy-out-seat Inv-loop2 μ-loop2 Inv-loop μ-loop
-array-copy-out-seat c = ?
-
--- src/lib.rt:267:25
-size-requires : tie.Need-size-requires Inv-loop2 μ-loop2 Inv-loop μ-loop
-size-requires c κs = ?
-
--- src/lib.rt:267:21
-add-e : tie.Need-add-e Inv-loop2 μ-loop2 Inv-loop μ-loop
-add-e c = ?
-
--- src/lib.rt:269:20
-is-deaf-requires : tie.Need-is-deaf-requires Inv-loop2 μ-loop2 Inv-loop μ-loop
-is-deaf-requires c κs = ?
-
--- src/lib.rt:271:21
-add-i : tie.Need-add-i Inv-loop2 μ-loop2 Inv-loop μ-loop
-add-i c = ?
-
--- src/lib.rt:265:9
-loop2-less : tie.Need-loop2-less Inv-loop2 μ-loop2 Inv-loop μ-loop
-loop2-less c = ?
-
--- src/lib.rt:265:9
-loop2-again : tie.Need-loop2-again Inv-loop2 μ-loop2 Inv-loop μ-loop
-loop2-again c = ?
-
--- src/lib.rt:275:51
-sub-hear : tie.Need-sub-hear Inv-loop2 μ-loop2 Inv-loop μ-loop
-sub-hear c = ?
-
--- src/lib.rt:275:51
-part-hear-start : tie.Need-part-hear-start Inv-loop2 μ-loop2 Inv-loop μ-loop
-part-hear-start c = ?
-
--- src/lib.rt:275:51
-part-hear-end : tie.Need-part-hear-end Inv-loop2 μ-loop2 Inv-loop μ-loop
-part-hear-end c = ?
-
--- src/lib.rt:275:17
-hear-requires : tie.Need-hear-requires Inv-loop2 μ-loop2 Inv-loop μ-loop
-hear-requires c κs = ?
-
--- src/lib.rt:276:23
-sda-requires : tie.Need-sda-requires Inv-loop2 μ-loop2 Inv-loop μ-loop
-sda-requires c κs = ?
-
--- src/lib.rt:277:13
-mul-seats : tie.Need-mul-seats Inv-loop2 μ-loop2 Inv-loop μ-loop
-mul-seats c = ?
-
--- src/lib.rt:277:13
-array-set-from-seats : tie.Need-array-set-from-seats Inv-loop2 μ-loop2 Inv-loop μ-loop
-array-set-from-seats c = ?
-
--- src/lib.rt:279:13
-add-i-2 : tie.Need-add-i-2 Inv-loop2 μ-loop2 Inv-loop μ-loop
-add-i-2 c = ?
-
--- src/lib.rt:265:9
-loop2-less-2 : tie.Need-loop2-less-2 Inv-loop2 μ-loop2 Inv-loop μ-loop
-loop2-less-2 c = ?
-
--- src/lib.rt:265:9
-loop2-again-2 : tie.Need-loop2-again-2 Inv-loop2 μ-loop2 Inv-loop μ-loop
-loop2-again-2 c = ?
-
--- src/lib.rt:282:9
-add-t-3 : tie.Need-add-t-3 Inv-loop2 μ-loop2 Inv-loop μ-loop
-add-t-3 c = ?
-
--- src/lib.rt:236:5
-loop-less-3 : tie.Need-loop-less-3 Inv-loop2 μ-loop2 Inv-loop μ-loop
-loop-less-3 c = ?
-
--- src/lib.rt:236:5
-loop-again-3 : tie.Need-loop-again-3 Inv-loop2 μ-loop2 Inv-loop μ-loop
-loop-again-3 c = ?
-
--- src/lib.rt:216:1
-same-length-4 : tie.Need-same-length-4 Inv-loop2 μ-loop2 Inv-loop μ-loop
-same-length-4 c = ?
-
--- src/lib.rt:216:1
-same-length-5 : tie.Need-same-length-5 Inv-loop2 μ-loop2 Inv-loop μ-loop
-same-length-5 c = ?
-
--- src/lib.rt:216:1
-same-length-6 : tie.Need-same-length-6 Inv-loop2 μ-loop2 Inv-loop μ-loop
-same-length-6 c = ?
-
--- src/lib.rt:216:1
-returns-2 : tie.Need-returns-2 Inv-loop2 μ-loop2 Inv-loop μ-loop
-returns-2 c = ?
+μ-loop n asked list holds memory₀ area₀ trace₀ bus₀ seats₀ t₀ memory area trace bus seats t = limit - t
 
 pub goes-spec : {M : Type 1} → statement M
 goes-spec =
@@ -236,52 +47,92 @@ goes-spec =
     μ-loop2
     Inv-loop
     μ-loop
-    loop-holds
-    is-over-requires
-    same-length
-    same-length-2
-    same-length-3
-    returns
-    calm-requires
-    sub-if3
-    fill-requires
-    rested-requires
-    add-t
-    loop-less
-    loop-again
-    lines-requires
-    event-requires
-    byte-requires
-    put-at-requires
-    tick-requires
-    is-quiet-requires
-    add-t-2
-    loop-less-2
-    loop-again-2
-    is-bit-requires
-    loop2-holds
-    mul-seat
-    array-copy-out-seat
-    size-requires
-    add-e
-    is-deaf-requires
-    add-i
-    loop2-less
-    loop2-again
-    sub-hear
-    part-hear-start
-    part-hear-end
-    hear-requires
-    sda-requires
-    mul-seats
-    array-set-from-seats
-    add-i-2
-    loop2-less-2
-    loop2-again-2
-    add-t-3
-    loop-less-3
-    loop-again-3
-    same-length-4
-    same-length-5
-    same-length-6
-    returns-2)
+    (λ c. search needs)
+    (λ c κs. search needs)
+    (λ c. search needs)
+    (λ c. search needs)
+    (λ c. search needs)
+    (λ c. let l = (c .before .before .before .loop) in (ends-over _ _ _ _ _ (l .bus) (seated (c .before .before .before .before .before .before .before .before .before .args .n) (c .before .before .before .loop .seats) (c .before .before .before .loop .memory)) _ _ _ _ (l .inv .6) (c .before .is-over .ensures) (c .if1 .taken), l .inv .5))
+    (λ c κs. search needs)
+    (λ c. let h = (c .before .before .before .before .loop-test .taken) in search needs)
+    (λ c κs. let h = (c .before .before .before .before .before .before .loop-test .taken) in let g : (c .before .before .before .calm .result) ≤ limit - (c .before .before .before .before .before .before .before .loop .t) = (c .before .if3 .taken) in let p : 0 < (c .before .before .before .calm .result) = (c .before .before .if2 .taken) in (omega arith, omega arith))
+    (λ c κs. search needs)
+    (λ c. let h = (c .before .before .before .before .before .before .before .before .before .before .loop-test .taken) in let g : (c .before .before .before .before .before .before .before .calm .result) ≤ limit - (c .before .before .before .before .before .before .before .before .before .before .before .loop .t) = (c .before .before .before .before .before .if3 .taken) in let p : 0 < (c .before .before .before .before .before .before .before .calm .result) = (c .before .before .before .before .before .before .if2 .taken) in search needs)
+    (λ c. let h = (c .before .before .before .before .before .before .before .before .before .before .loop-test .taken) in let g : (c .before .before .before .before .before .before .before .calm .result) ≤ limit - (c .before .before .before .before .before .before .before .before .before .before .before .loop .t) = (c .before .before .before .before .before .if3 .taken) in let p : 0 < (c .before .before .before .before .before .before .before .calm .result) = (c .before .before .before .before .before .before .if2 .taken) in search needs)
+    (λ c. let l = (c .before .before .before .before .before .before .before .before .before .before .before .loop) in (
+      l .inv .0,
+      l .inv .1,
+      (c .before .before .before .fill .kept .0) ∙ l .inv .2,
+      l .inv .3,
+      ap (λ (x : Bus). x .up) (c .rested .ensures) ∙ l .inv .4,
+      l .inv .5,
+      jump _ _ (c .before .before .before .before .before .before .before .before .before .before .before .before .before .before .before .before .before .args .asked) limit (l .bus) _ (seated (c .before .before .before .before .before .before .before .before .before .before .before .before .before .before .before .before .before .args .n) (c .before .before .before .before .before .before .before .before .before .before .before .loop .seats) (c .before .before .before .before .before .before .before .before .before .before .before .loop .memory)) (l .area) (l .trace) _ (l .t) (c .before .before .before .before .before .before .before .calm .result) _ (l .inv .6) (l .inv .4) (c .before .before .before .before .before .before .before .calm .ensures) (c .before .before .before .fill .ensures) (c .rested .ensures) (c .before .before .before .before .before .before .if2 .taken) (c .before .before .before .before .before .if3 .taken),
+    ))
+    (λ c κs. search needs)
+    (λ c κs. search needs)
+    (λ c κs. search needs)
+    (λ c κs. search needs)
+    (λ c κs. search needs)
+    (λ c κs. search needs)
+    (λ c. let h = (c .before .before .before .before .before .before .before .before .before .before .before .before .before .before .before .before .before .loop-test .taken) in search needs)
+    (λ c. let h = (c .before .before .before .before .before .before .before .before .before .before .before .before .before .before .before .before .before .loop-test .taken) in search needs)
+    (λ c. let l = (c .before .before .before .before .before .before .before .before .before .before .before .before .before .before .before .before .before .before .loop) in (
+      l .inv .0,
+      (c .before .before .before .before .tick .kept .1 .1 .1 .1 .0) ∙ l .inv .1,
+      (c .before .before .before .before .before .before .before .before .put-at .kept .0) ∙ l .inv .2,
+      l .inv .3,
+      (c .before .before .before .before .tick .ensures .1) ∙ l .inv .4,
+      l .inv .5,
+      turn _ _ (c .before .before .before .before .before .before .before .before .before .before .before .before .before .before .before .before .before .before .before .before .before .before .before .before .args .asked) limit (l .bus) _ (seated (c .before .before .before .before .before .before .before .before .before .before .before .before .before .before .before .before .before .before .before .before .before .before .before .before .args .n) (c .before .before .before .before .before .before .before .before .before .before .before .before .before .before .before .before .before .before .loop .seats) (c .before .before .before .before .before .before .before .before .before .before .before .before .before .before .before .before .before .before .loop .memory)) (seated (c .before .before .before .before .before .before .before .before .before .before .before .before .before .before .before .before .before .before .before .before .before .before .before .before .args .n) (c .before .before .before .before .before .before .before .before .before .before .before .before .before .before .before .before .before .before .loop .seats) (c .before .before .before .before .before .before .before .before .before .before .before .before .before .before .before .before .before .before .loop .memory)) (l .area) _ (l .trace) _ (l .t) _ _ _ _ (l .inv .6) (l .inv .4) (c .before .before .before .before .before .before .before .before .before .before .before .before .before .before .before .before .is-over .ensures) (c .before .before .before .before .before .before .before .before .before .before .before .before .before .before .before .if1 .left) (c .before .before .before .before .before .before .before .before .before .before .before .before .lines .ensures) (c .before .before .before .before .before .before .before .before .before .byte .ensures) (c .before .before .before .before .before .before .before .before .put-at .ensures) (c .before .before .before .before .tick .ensures .0)
+          (rw (c .before .before .before .before .before .before .before .before .before .before .before .event .ensures) at (none-heard (c .before .before .before .before .before .before .before .before .before .before .before .before .before .before .before .before .before .before .before .before .before .before .before .before .args .asked) (l .t) (c .before .before .before .before .before .before .before .before .before .before .before .event .result) (sym (c .before .is-quiet .ensures) ∙ (c .if4 .taken)) (seated (c .before .before .before .before .before .before .before .before .before .before .before .before .before .before .before .before .before .before .before .before .before .before .before .before .args .n) (c .before .before .before .before .before .before .before .before .before .before .before .before .before .before .before .before .before .before .loop .seats) (c .before .before .before .before .before .before .before .before .before .before .before .before .before .before .before .before .before .before .loop .memory)))) (c .before .before .before .before .before .before .before .before .before .before .before .before .before .before .before .before .before .loop-test .taken),
+    ))
+    (λ c κs. search needs)
+    (λ c. let l = (c .before .before .before .before .before .before .before .before .before .before .before .before .before .before .before .before .before .before .before .loop) in let r = (c .before .before .before .before .before .before .before .before .before .before .before .before .before .before .before .before .before .before .before .before .before .before .before .before .before .pre .0) in (zero-le, refl, l .inv .3, zero-le, none-heard-yet _ _ _ _ _ _ (l .inv .5) (rw (l .inv .3) r)))
+    (λ c. let l = (c .before .loop2) in let h = (c .loop2-test .taken) in let r = (c .before .before .before .before .before .before .before .before .before .before .before .before .before .before .before .before .before .before .before .before .before .before .before .before .before .before .before .pre .0) in record { fits = index-fits _ _ h r })
+    (λ c. let l = (c .before .loop2) in let h = (c .loop2-test .taken) in let r = (c .before .before .before .before .before .before .before .before .before .before .before .before .before .before .before .before .before .before .before .before .before .before .before .before .before .before .before .pre .0) in index-below _ _ h r)
+    (λ c κs. search needs)
+    (λ c. let l = (c .before .before .before .loop2) in let h = (c .before .before .loop2-test .taken) in let r = (c .before .before .before .before .before .before .before .before .before .before .before .before .before .before .before .before .before .before .before .before .before .before .before .before .before .before .before .before .before .pre .0) in record { fits = end-fits _ _ _ _ h r (l .inv .3) (c .size .ensures .1) })
+    (λ c κs. search needs)
+    (λ c. let l = (c .before .before .before .before .before .before .loop2) in let h = (c .before .before .before .before .before .loop2-test .taken) in let r = (c .before .before .before .before .before .before .before .before .before .before .before .before .before .before .before .before .before .before .before .before .before .before .before .before .before .before .before .before .before .before .before .before .pre .0) in record { fits = next-fits _ _ h r })
+    (λ c. let l = (c .before .before .before .before .before .before .loop2) in let h = (c .before .before .before .before .before .loop2-test .taken) in let r = (c .before .before .before .before .before .before .before .before .before .before .before .before .before .before .before .before .before .before .before .before .before .before .before .before .before .before .before .before .before .before .before .before .pre .0) in next-less _ _ h)
+    (λ c. let l = (c .before .before .before .before .before .before .loop2) in let h = (c .before .before .before .before .before .loop2-test .taken) in let r = (c .before .before .before .before .before .before .before .before .before .before .before .before .before .before .before .before .before .before .before .before .before .before .before .before .before .before .before .before .before .before .before .before .pre .0) in (
+      next-within _ _ h,
+      l .inv .1,
+      l .inv .2,
+      next-bound _ _ _ (l .inv .3) (c .before .before .before .size .ensures .1),
+      passes-one _ _ _ _ _ _ _ _ _ _ (l .inv .4) h _ _ (c .before .before .before .size .ensures .0) _ _ (c .before .is-deaf .ensures) (c .if6 .taken) (c .before .before .before .before .before .before .before .is-bit .ensures) (c .before .before .if5 .taken),
+    ))
+    (λ c. le-add-right _ _)
+    (λ c. le-add-right _ _)
+    (λ c. let l = (c .before .before .before .before .loop2) in let h = (c .before .before .before .loop2-test .taken) in let r = (c .before .before .before .before .before .before .before .before .before .before .before .before .before .before .before .before .before .before .before .before .before .before .before .before .before .before .before .before .before .before .pre .0) in part-ends _ _ _ _ _ _ _ _ _ _ (l .inv .4) h _ _ (c .before .size .ensures .0))
+    (λ c κs. (c .before .before .before .before .before .before .before .before .before .before .before .before .before .before .before .before .before .before .before .before .before .before .before .before .loop-test .taken))
+    (λ c κs. search needs)
+    (λ c. let l = (c .before .before .before .before .before .before .before .before .before .loop2) in let h = (c .before .before .before .before .before .before .before .before .loop2-test .taken) in let r = (c .before .before .before .before .before .before .before .before .before .before .before .before .before .before .before .before .before .before .before .before .before .before .before .before .before .before .before .before .before .before .before .before .before .before .before .pre .0) in record { fits = index-fits _ _ h r })
+    (λ c. let l = (c .before .before .before .before .before .before .before .before .before .loop2) in let h = (c .before .before .before .before .before .before .before .before .loop2-test .taken) in let r = (c .before .before .before .before .before .before .before .before .before .before .before .before .before .before .before .before .before .before .before .before .before .before .before .before .before .before .before .before .before .before .before .before .before .before .before .pre .0) in index-below _ _ h r)
+    (λ c. let l = (c .before .before .before .before .before .before .before .before .before .loop2) in let h = (c .before .before .before .before .before .before .before .before .loop2-test .taken) in let r = (c .before .before .before .before .before .before .before .before .before .before .before .before .before .before .before .before .before .before .before .before .before .before .before .before .before .before .before .before .before .before .before .before .before .before .before .pre .0) in record { fits = next-fits _ _ h r })
+    (λ c. let l = (c .before .before .before .before .before .before .before .before .before .loop2) in let h = (c .before .before .before .before .before .before .before .before .loop2-test .taken) in let r = (c .before .before .before .before .before .before .before .before .before .before .before .before .before .before .before .before .before .before .before .before .before .before .before .before .before .before .before .before .before .before .before .before .before .before .before .pre .0) in next-less _ _ h)
+    (λ c. let l = (c .before .before .before .before .before .before .before .before .before .loop2) in let h = (c .before .before .before .before .before .before .before .before .loop2-test .taken) in let r = (c .before .before .before .before .before .before .before .before .before .before .before .before .before .before .before .before .before .before .before .before .before .before .before .before .before .before .before .before .before .before .before .before .before .before .before .pre .0) in (
+      next-within _ _ h,
+      same-len-mid (l .a) (l .a + (c .before .before .before .before .before .before .size .result) - l .a) (l .memory) (c .before .before .before .hear .last .1 .1 .1 .1 .0) (c .before .before .before .hear .kept .1 .1 .1 .1 .0) ∙ l .inv .1,
+      simp length-set (l .inv .2),
+      next-bound _ _ _ (l .inv .3) (c .before .before .before .before .before .before .size .ensures .1),
+      hears-one _ _ _ _ _ _ _ _ _ _ (l .inv .4) h _ _ (c .before .before .before .before .before .before .size .ensures .0) _ _ _ (c .before .before .before .hear .ensures) (c .before .before .before .hear .kept .1 .1 .1 .1 .0) (c .sda .ensures),
+    ))
+    (λ c. let h = (c .before .before .before .before .before .before .before .before .before .before .before .before .before .before .before .before .before .before .before .before .loop-test .taken) in search needs)
+    (λ c. let h = (c .before .before .before .before .before .before .before .before .before .before .before .before .before .before .before .before .before .before .before .before .loop-test .taken) in search needs)
+    (λ c. let l = (c .before .before .before .before .before .before .before .before .before .before .before .before .before .before .before .before .before .before .before .before .before .loop) in let m = (c .before .loop2) in let r = (c .before .before .before .before .before .before .before .before .before .before .before .before .before .before .before .before .before .before .before .before .before .before .before .before .before .before .before .pre .0) in let b = (c .before .before .before .before .before .before .before .tick .result) in
+    let g = all-have-heard _ _ _ _ _ _ _ _ _ _ (m .inv .4) (m .inv .0) (c .loop2-test .left) (seated-length (c .before .before .before .before .before .before .before .before .before .before .before .before .before .before .before .before .before .before .before .before .before .before .before .before .before .before .before .args .n) (l .seats) (l .memory) (rw (l .inv .3) r)) in (
+      m .inv .1 ∙ l .inv .0,
+      (c .before .before .before .before .before .before .before .tick .kept .1 .1 .1 .1 .0) ∙ l .inv .1,
+      (c .before .before .before .before .before .before .before .before .before .before .before .put-at .kept .0) ∙ l .inv .2,
+      m .inv .2,
+      g .1,
+      m .inv .4 .fits,
+      turn _ _ (c .before .before .before .before .before .before .before .before .before .before .before .before .before .before .before .before .before .before .before .before .before .before .before .before .before .before .before .args .asked) limit (l .bus) (record { control = b .control; hold = b .hold; eye = b .eye; up = m .up }) (seated (c .before .before .before .before .before .before .before .before .before .before .before .before .before .before .before .before .before .before .before .before .before .before .before .before .before .before .before .args .n) (c .before .before .before .before .before .before .before .before .before .before .before .before .before .before .before .before .before .before .before .before .before .loop .seats) (c .before .before .before .before .before .before .before .before .before .before .before .before .before .before .before .before .before .before .before .before .before .loop .memory)) (seated (c .before .before .before .before .before .before .before .before .before .before .before .before .before .before .before .before .before .before .before .before .before .before .before .before .before .before .before .args .n) (c .before .loop2 .seats) (c .before .loop2 .memory)) (l .area) _ (l .trace) _ (l .t) _ _ _ _ (l .inv .6) (l .inv .4) (c .before .before .before .before .before .before .before .before .before .before .before .before .before .before .before .before .before .before .before .is-over .ensures) (c .before .before .before .before .before .before .before .before .before .before .before .before .before .before .before .before .before .before .if1 .left) (c .before .before .before .before .before .before .before .before .before .before .before .before .before .before .before .lines .ensures) (c .before .before .before .before .before .before .before .before .before .before .before .before .byte .ensures) (c .before .before .before .before .before .before .before .before .before .before .before .put-at .ensures)
+          (record { control = (c .before .before .before .before .before .before .before .tick .ensures .0 .control); hold = (c .before .before .before .before .before .before .before .tick .ensures .0 .hold); eye = (c .before .before .before .before .before .before .before .tick .ensures .0 .eye) })
+          (rw (g .0, ← (c .before .before .before .before .before .before .before .before .before .before .before .before .before .before .event .ensures)) (all-heard (c .before .before .before .before .before .before .before .before .before .before .before .before .before .before .before .before .before .before .before .before .before .before .before .before .before .before .before .args .asked) (l .t) (c .before .before .before .before .before .before .before .before .before .before .before .before .before .before .event .result) (seated (c .before .before .before .before .before .before .before .before .before .before .before .before .before .before .before .before .before .before .before .before .before .before .before .before .before .before .before .args .n) (c .before .before .before .before .before .before .before .before .before .before .before .before .before .before .before .before .before .before .before .before .before .loop .seats) (c .before .before .before .before .before .before .before .before .before .before .before .before .before .before .before .before .before .before .before .before .before .loop .memory)))) (c .before .before .before .before .before .before .before .before .before .before .before .before .before .before .before .before .before .before .before .before .loop-test .taken),
+    ))
+    (λ c. search needs)
+    (λ c. search needs)
+    (λ c. search needs)
+    (λ c. let l = (c .before .loop) in (ends-late _ _ _ _ _ (l .bus) (seated (c .before .before .before .before .before .before .before .args .n) (c .before .loop .seats) (c .before .loop .memory)) _ _ _ (l .inv .6) (c .loop-test .left), l .inv .5)))
