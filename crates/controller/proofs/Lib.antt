@@ -6,3 +6,4 @@ pub mod Matches
 pub mod Simulation
 pub mod Record
 pub mod Entry
+pub mod Bound

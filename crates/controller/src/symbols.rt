@@ -123,7 +123,7 @@ impl Phase {
         ensures { λ r. ⌜ r ≡ phaseAfter self seen ⌝ }
     {
         match self {
-            Phase::Over(f) => Phase::Over(f),
+            Phase::Over(_) => self,
             Phase::Waiting(n) => if n == 0 {
                 Phase::Zero(Symbol::Start(Begin::First))
             } else {
@@ -136,7 +136,7 @@ impl Phase {
             } else {
                 Phase::Two(s, n + 1)
             },
-            Phase::Three(s, w) => Phase::Three(s, w),
+            Phase::Three(_, _) => self,
         }
     }
 }

@@ -6,5 +6,5 @@ use Rattle.controller.proofs.Cursor.address.Tie as tie
 pub address-spec : {M : Type 1} → statement M
 address-spec =
     tie.close (tie.spec
-    (λ c. search needs) (λ c. search needs) (λ c κs. search needs) (λ c κs. search needs) (λ c κs. search needs)
-    (λ c κs. search needs) (λ c. search (address-is)))
+    (λ c. search needs) (λ c. search needs) (λ c κs. search needs) (λ c κs. search needs) (λ c κs. search needs) (λ c κs. search needs)
+    (λ c. search address-is))

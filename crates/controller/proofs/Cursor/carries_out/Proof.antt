@@ -6,6 +6,5 @@ use Rattle.controller.proofs.Cursor.carries_out.Tie as tie
 pub carries-out-spec : {M : Type 1} → statement M
 carries-out-spec =
     tie.close (tie.spec
-    (λ c. search needs) (λ c. search needs) (λ c κs. search needs) (λ c. search needs) (λ c κs. search needs)
-    (λ c κs. search needs) (λ c κs. search needs) (λ c κs. search needs) (λ c κs. search needs)
-    (λ c. search (is-write, is-read)) (λ c. search (is-write, is-read)))
+    (λ c. search needs) (λ c. search needs) (λ c κs. search needs) (λ c. search needs) (λ c κs. search needs) (λ c κs. search needs)
+    (λ c κs. search needs) (λ c κs. search needs) (λ c κs. search needs) (λ c. search is-write) (λ c. search is-read))

@@ -6,5 +6,5 @@ use Rattle.controller.proofs.Cursor.gets_on.Tie as tie
 pub gets-on-spec : {M : Type 1} → statement M
 gets-on-spec =
     tie.close (tie.spec
-    (λ c κs. search needs) (λ c. search needs) (λ c κs. search needs) (λ c. search needs) (λ c κs. search needs)
-    (λ c. search (no-more-got, gets-one)) (λ c. search (no-more-got, gets-one)))
+    (λ c κs. search needs) (λ c. search needs) (λ c κs. search needs) (λ c. search needs) (λ c κs. search needs) (λ c. search no-more-got)
+    (λ c. search gets-one))

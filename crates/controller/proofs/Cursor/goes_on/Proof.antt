@@ -6,5 +6,4 @@ use Rattle.controller.proofs.Cursor.goes_on.Tie as tie
 pub goes-on-spec : {M : Type 1} → statement M
 goes-on-spec =
     tie.close (tie.spec
-    (λ c κs. search needs) (λ c κs. search needs) (λ c κs. search needs) (λ c. search (last-message, next-message))
-    (λ c. search (last-message, next-message)))
+    (λ c κs. search needs) (λ c κs. search needs) (λ c κs. search needs) (λ c. search last-message) (λ c. search next-message))

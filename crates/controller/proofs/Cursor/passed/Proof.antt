@@ -6,5 +6,5 @@ use Rattle.controller.proofs.Cursor.passed.Tie as tie
 pub passed-spec : {M : Type 1} → statement M
 passed-spec =
     tie.close (tie.spec
-    (λ c κs. search needs) (λ c κs. search needs) (λ c. search needs) (λ c. search needs) (λ c. search needs)
-    (λ c. search needs) (λ c. search needs) (λ c. search needs) (λ c κs. search needs) (λ c. search (passes)))
+    (λ c κs. search needs) (λ c κs. search needs) (λ c. search needs) (λ c. search needs) (λ c. search needs) (λ c. search needs)
+    (λ c. search needs) (λ c. search needs) (λ c κs. search needs) (λ c. search passes))

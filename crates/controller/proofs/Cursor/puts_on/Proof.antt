@@ -6,5 +6,4 @@ use Rattle.controller.proofs.Cursor.puts_on.Tie as tie
 pub puts-on-spec : {M : Type 1} → statement M
 puts-on-spec =
     tie.close (tie.spec
-    (λ c κs. search needs) (λ c. search needs) (λ c κs. search needs) (λ c. search (no-more-put, puts-one))
-    (λ c. search (no-more-put, puts-one)))
+    (λ c κs. search needs) (λ c. search needs) (λ c κs. search needs) (λ c. search no-more-put) (λ c. search puts-one))

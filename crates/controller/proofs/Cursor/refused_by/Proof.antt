@@ -6,5 +6,5 @@ use Rattle.controller.proofs.Cursor.refused_by.Tie as tie
 pub refused-by-spec : {M : Type 1} → statement M
 refused-by-spec =
     tie.close (tie.spec
-    (λ c. search needs) (λ c. search needs) (λ c κs. search needs) (λ c κs. search needs) (λ c κs. search needs)
-    (λ c κs. search needs) (λ c. search (is-critical, is-not)) (λ c. search (is-critical, is-not)))
+    (λ c. search needs) (λ c. search needs) (λ c κs. search needs) (λ c κs. search needs) (λ c κs. search needs) (λ c κs. search needs)
+    (λ c. search is-critical) (λ c. search is-not))

@@ -7,12 +7,5 @@ pub after-spec : {M : Type 1} → statement M
 after-spec =
     tie.close (tie.spec
     (λ c. search needs) (λ c. search needs) (λ c. search needs) (λ c. search needs) (λ c. search needs) (λ c. search needs)
-    (λ c. search (needs, room-to-hold)) (λ c. search needs)
-    (λ c. search (wait-over, waits-on, rises, held-on, after-is))
-    (λ c. search (wait-over, waits-on, rises, held-on, after-is))
-    (λ c. search (wait-over, waits-on, rises, held-on, after-is))
-    (λ c. search (wait-over, waits-on, rises, held-on, after-is))
-    (λ c. search (wait-over, waits-on, rises, held-on, after-is))
-    (λ c. search (wait-over, waits-on, rises, held-on, after-is))
-    (λ c. search (wait-over, waits-on, rises, held-on, after-is))
-    (λ c. search (wait-over, waits-on, rises, held-on, after-is)))
+    (λ c. search (needs, room-to-hold)) (λ c. search needs) (λ c. search needs) (λ c. search wait-over) (λ c. search waits-on)
+    (λ c. search after-is) (λ c. search after-is) (λ c. search rises) (λ c. search held-on) (λ c. search needs))

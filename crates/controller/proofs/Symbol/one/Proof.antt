@@ -6,7 +6,6 @@ use Rattle.controller.proofs.Symbol.one.Tie as tie
 pub one-spec : {M : Type 1} → statement M
 one-spec =
     tie.close (tie.spec
-    (λ c. search needs) (λ c. search needs) (λ c κs. search needs) (λ c. search needs) (λ c κs. search needs)
-    (λ c. search needs) (λ c κs. search needs) (λ c. search needs) (λ c κs. search needs) (λ c. search needs)
-    (λ c κs. search needs) (λ c. search (row-one, start-one)) (λ c. search (row-one, start-one))
-    (λ c. search (row-one, start-one)) (λ c. search (row-one, start-one)) (λ c. search (row-one, start-one)))
+    (λ c. search needs) (λ c. search needs) (λ c κs. search needs) (λ c. search needs) (λ c κs. search needs) (λ c. search needs)
+    (λ c κs. search needs) (λ c. search needs) (λ c κs. search needs) (λ c. search needs) (λ c κs. search needs) (λ c. search start-one)
+    (λ c. search start-one) (λ c. search row-one) (λ c. search row-one) (λ c. search row-one))

@@ -6,7 +6,6 @@ use Rattle.controller.proofs.Symbol.three.Tie as tie
 pub three-spec : {M : Type 1} → statement M
 three-spec =
     tie.close (tie.spec
-    (λ c. search needs) (λ c. search needs) (λ c κs. search needs) (λ c. search needs) (λ c κs. search needs)
-    (λ c. search needs) (λ c κs. search needs) (λ c. search needs) (λ c κs. search needs) (λ c. search needs)
-    (λ c κs. search needs) (λ c. search (row-three, start-three)) (λ c. search (row-three, start-three))
-    (λ c. search (row-three, start-three)) (λ c. search (row-three, start-three)) (λ c. search (row-three, start-three)))
+    (λ c. search needs) (λ c. search needs) (λ c κs. search needs) (λ c. search needs) (λ c κs. search needs) (λ c. search needs)
+    (λ c κs. search needs) (λ c. search needs) (λ c κs. search needs) (λ c. search needs) (λ c κs. search needs) (λ c. search start-three)
+    (λ c. search start-three) (λ c. search row-three) (λ c. search row-three) (λ c. search row-three))

@@ -6,7 +6,6 @@ use Rattle.controller.proofs.Symbol.two.Tie as tie
 pub two-spec : {M : Type 1} → statement M
 two-spec =
     tie.close (tie.spec
-    (λ c. search needs) (λ c. search needs) (λ c κs. search needs) (λ c. search needs) (λ c κs. search needs)
-    (λ c. search needs) (λ c κs. search needs) (λ c. search needs) (λ c κs. search needs) (λ c. search needs)
-    (λ c κs. search needs) (λ c. search (row-two, start-two)) (λ c. search (row-two, start-two))
-    (λ c. search (row-two, start-two)) (λ c. search (row-two, start-two)) (λ c. search (row-two, start-two)))
+    (λ c. search needs) (λ c. search needs) (λ c κs. search needs) (λ c. search needs) (λ c κs. search needs) (λ c. search needs)
+    (λ c κs. search needs) (λ c. search needs) (λ c κs. search needs) (λ c. search needs) (λ c κs. search needs) (λ c. search start-two)
+    (λ c. search start-two) (λ c. search row-two) (λ c. search row-two) (λ c. search row-two))

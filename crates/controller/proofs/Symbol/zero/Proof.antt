@@ -6,7 +6,6 @@ use Rattle.controller.proofs.Symbol.zero.Tie as tie
 pub zero-spec : {M : Type 1} → statement M
 zero-spec =
     tie.close (tie.spec
-    (λ c. search needs) (λ c. search needs) (λ c κs. search needs) (λ c. search needs) (λ c κs. search needs)
-    (λ c. search needs) (λ c κs. search needs) (λ c. search needs) (λ c κs. search needs) (λ c. search needs)
-    (λ c κs. search needs) (λ c. search (row-zero, start-zero)) (λ c. search (row-zero, start-zero))
-    (λ c. search (row-zero, start-zero)) (λ c. search (row-zero, start-zero)) (λ c. search (row-zero, start-zero)))
+    (λ c. search needs) (λ c. search needs) (λ c κs. search needs) (λ c. search needs) (λ c κs. search needs) (λ c. search needs)
+    (λ c κs. search needs) (λ c. search needs) (λ c κs. search needs) (λ c. search needs) (λ c κs. search needs) (λ c. search start-zero)
+    (λ c. search start-zero) (λ c. search row-zero) (λ c. search row-zero) (λ c. search row-zero))
