@@ -1,0 +1,5 @@
+pub mod Maps
+pub mod Time
+pub mod Table
+pub mod Ticks
+pub mod Symbols
