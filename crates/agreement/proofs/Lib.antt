@@ -3,3 +3,5 @@ pub mod Time
 pub mod Table
 pub mod Ticks
 pub mod Symbols
+pub mod Standing
+pub mod Interface
