@@ -5,3 +5,5 @@ pub mod Ticks
 pub mod Symbols
 pub mod Standing
 pub mod Interface
+pub mod Moments
+pub mod Faultless

@@ -1,22 +1,24 @@
 -- A clocked symbol by the tables of symbols and of faults: what is driven in its phases, that no fault test fires, and what phase 3 tells the chips. x is
 -- what the chips drive on SDA. Assumes nothing.
 use Prim.Native.Nat.{ℕ, _<_}
-use mathlib.Core.Path.{_≡_, refl}
+use mathlib.Core.Path.{_≡_, refl, ap}
 use mathlib.Core.Bool.{Bool, true, false, _&&_}
 use borrow.Author.Tests.{lt-leb}
+use lib.Dec.{eqb}
 use Rattle.lines.specs.Levels.{hi, lo, _∥_, mostHeld}
 use Rattle.lines.specs.Events.{event, note}
 use Rattle.lines.specs.declared.Noted.{Noted}
 use Rattle.lines.specs.declared.Noted.the-variants.{Nothing, Level}
 use Rattle.lines.specs.declared.Event.{Event}
 use Rattle.lines.specs.declared.Event.the-variants.{Quiet, Started, Stopped, Bit}
-use Rattle.controller.specs.Symbols.{four, row}
+use Rattle.controller.specs.Symbols.{Row, four, row, drives}
 use Rattle.controller.specs.Faults.{faultOf}
 use Rattle.controller.specs.declared.Begin.the-variants.{First, Repeated}
 use Rattle.controller.specs.declared.Symbol.{Symbol}
 use Rattle.controller.specs.declared.Symbol.the-variants.{Start, Stop, Sent, Received}
 use Rattle.controller.specs.declared.Fault.the-variants.{Clear}
 use Rattle.controller.specs.declared.Phase.the-variants.{Zero, One, Two, Three}
+use Rattle.bus.specs.Wires.{joined}
 
 -- SDA driven in phases 1 and 2
 abbrev pub mid : Symbol → Bool
@@ -46,6 +48,20 @@ clocked-row (Start Repeated) x f p = refl
 clocked-row Stop x f p = refl
 clocked-row (Sent b) x f p = refl
 clocked-row Received x f p = refl
+
+-- the lines, the holder driving SCL low for h ticks more and the chips y on SDA
+module _ (s : Symbol) (x : Bool) (f : Fine s x) (p : Bool) where
+  pub lines-zero : (h : ℕ) (y : Bool) → joined (drives (Zero s) p) h y ≡ lo ∥ (p && y)
+  lines-zero h y = ap (λ (r : Row). joined (r .zero) h y) (clocked-row s x f p)
+
+  pub lines-one : (h : ℕ) (y : Bool) → joined (drives (One s) p) h y ≡ lo ∥ (mid s && y)
+  lines-one h y = ap (λ (r : Row). joined (r .one) h y) (clocked-row s x f p)
+
+  pub lines-two : (n h : ℕ) (y : Bool) → joined (drives (Two s n) p) h y ≡ eqb h 0 ∥ (mid s && y)
+  lines-two n h y = ap (λ (r : Row). joined (r .two) h y) (clocked-row s x f p)
+
+  pub lines-three : (w : Bool) (h : ℕ) (y : Bool) → joined (drives (Three s w) p) h y ≡ eqb h 0 ∥ (late s && y)
+  lines-three w h y = ap (λ (r : Row). joined (r .three) h y) (clocked-row s x f p)
 
 pub clear-zero : (s : Symbol) (x : Bool) → Fine s x → (p y : Bool) → faultOf (Zero s) p (lo ∥ (p && y)) ≡ Clear
 unfolding faultOf

@@ -28,7 +28,7 @@ use Rattle.controller.specs.declared.Phase.the-variants.{Waiting, Zero, One, Tw
 use Rattle.eeprom.specs.Stages.{Body, bodyTick}
 use Rattle.bus.specs.Holding.{holdTick, firstHold, laterHolds}
 use Rattle.bus.specs.Wires.{Bus, allUp, joined, seeing, tick}
-use Rattle.agreement.proofs.Table.{mid, late, Fine, clocked-row, clear-zero, clear-one, clear-held, clear-two, clear-three, told, kept, told-is, kept-is}
+use Rattle.agreement.proofs.Table.{mid, late, Fine, clocked-row, lines-zero, lines-one, lines-two, lines-three, clear-zero, clear-one, clear-held, clear-two, clear-three, told, kept, told-is, kept-is}
 use Rattle.agreement.proofs.Time.{Timed, bodiesAt, hearsAt, up, up-at, quiet-tick, deliver-tick, start-tick}
 
 abbrev pub eye : Bool → Bool → Noted → Eye
@@ -73,24 +73,12 @@ module _ (Q : Plan) (asked : ℕ) where
 
   -- a clocked symbol: x is what the chips drive once the bit before is delivered
   module _ (s : Symbol) (p : Bool) (d : Q .State) (hs : List ℕ) (x : Bool) (f : Fine s x) where
-    lines-zero : (h : ℕ) (y : Bool) → joined (drives (Zero s) p) h y ≡ lo ∥ (p && y)
-    lines-zero h y = ap (λ (r : Row). joined (r .zero) h y) (clocked-row s x f p)
-
-    lines-one : (h : ℕ) (y : Bool) → joined (drives (One s) p) h y ≡ lo ∥ (mid s && y)
-    lines-one h y = ap (λ (r : Row). joined (r .one) h y) (clocked-row s x f p)
-
-    lines-two : (n h : ℕ) (y : Bool) → joined (drives (Two s n) p) h y ≡ eqb h 0 ∥ (mid s && y)
-    lines-two n h y = ap (λ (r : Row). joined (r .two) h y) (clocked-row s x f p)
-
-    lines-three : (w : Bool) (h : ℕ) (y : Bool) → joined (drives (Three s w) p) h y ≡ eqb h 0 ∥ (late s && y)
-    lines-three w h y = ap (λ (r : Row). joined (r .three) h y) (clocked-row s x f p)
-
     -- phase 0: SCL falls, the noted bit is delivered, and the holder takes its next byte
     pub zero-tick : (w : Bool) (n : Noted) (t : ℕ) (ys : List Timed)
         → tick Q asked (bus Q (Zero s) p d 0 hs (eye hi w n) (bodiesAt t ys))
         ≡ bus Q (One s) p d (suc (firstHold hs)) (laterHolds hs) (eye lo (p && up ys) Nothing) (bodiesAt (suc t) (map (hearsAt t (delivered n)) ys))
     zero-tick w n t ys =
-        one (Zero s) p d 0 hs (eye hi w n) (bodiesAt t ys) (lo ∥ (p && up ys)) (lines-zero 0 _ ∙ ap (λ y. lo ∥ (p && y)) (up-at t ys)) (clear-zero s x f p (up ys))
+        one (Zero s) p d 0 hs (eye hi w n) (bodiesAt t ys) (lo ∥ (p && up ys)) (lines-zero s x f p 0 _ ∙ ap (λ y. lo ∥ (p && y)) (up-at t ys)) (clear-zero s x f p (up ys))
         ∙ ap (bus Q (One s) p d (suc (firstHold hs)) (laterHolds hs) (eye lo (p && up ys) Nothing)) (deliver-tick asked t n ys)
 
     module _ (t : ℕ) (zs : List Timed) (u : up zs ≡ x) where
@@ -101,7 +89,7 @@ module _ (Q : Plan) (asked : ℕ) where
           → tick Q asked (bus Q (One s) p d (suc h) hs (eye lo w Nothing) (bodiesAt t zs))
           ≡ bus Q (Two s 0) p d h hs (eye lo (mid s && x) Nothing) (bodiesAt (suc t) zs)
       one-tick h w =
-          one (One s) p d (suc h) hs (eye lo w Nothing) (bodiesAt t zs) (lo ∥ (mid s && x)) (lines-one (suc h) _ ∙ ap (λ y. lo ∥ (mid s && y)) up-x) (clear-one s x f p)
+          one (One s) p d (suc h) hs (eye lo w Nothing) (bodiesAt t zs) (lo ∥ (mid s && x)) (lines-one s x f p (suc h) _ ∙ ap (λ y. lo ∥ (mid s && y)) up-x) (clear-one s x f p)
           ∙ ap₂ (λ m bs. bus Q (Two s 0) p d m hs (eye lo (mid s && x) Nothing) bs) (one-off h) (quiet-tick asked t zs)
 
       -- phase 2 while SCL is held
@@ -109,7 +97,7 @@ module _ (Q : Plan) (asked : ℕ) where
           → tick Q asked (bus Q (Two s j) p d (suc h) hs (eye lo (mid s && x) Nothing) (bodiesAt t zs))
           ≡ bus Q (Two s (suc j)) p d h hs (eye lo (mid s && x) Nothing) (bodiesAt (suc t) zs)
       held-tick j h l =
-          one (Two s j) p d (suc h) hs (eye lo (mid s && x) Nothing) (bodiesAt t zs) (lo ∥ (mid s && x)) (lines-two j (suc h) _ ∙ ap₂ (λ q y. q ∥ (mid s && y)) (some-left h) up-x) (clear-held s x f p j l)
+          one (Two s j) p d (suc h) hs (eye lo (mid s && x) Nothing) (bodiesAt t zs) (lo ∥ (mid s && x)) (lines-two s x f p j (suc h) _ ∙ ap₂ (λ q y. q ∥ (mid s && y)) (some-left h) up-x) (clear-held s x f p j l)
           ∙ ap₂ (λ m bs. bus Q (Two s (suc j)) p d m hs (eye lo (mid s && x) Nothing) bs) (one-off h) (quiet-tick asked t zs)
 
       -- and its last tick: SCL rises, and the chips note SDA
@@ -117,14 +105,14 @@ module _ (Q : Plan) (asked : ℕ) where
           → tick Q asked (bus Q (Two s j) p d 0 hs (eye lo (mid s && x) Nothing) (bodiesAt t zs))
           ≡ bus Q (Three s (mid s && x)) p d 0 hs (eye hi (mid s && x) (Level (mid s && x))) (bodiesAt (suc t) zs)
       two-tick j =
-          one (Two s j) p d 0 hs (eye lo (mid s && x) Nothing) (bodiesAt t zs) (hi ∥ (mid s && x)) (lines-two j 0 _ ∙ ap (λ y. hi ∥ (mid s && y)) up-x) (clear-two s x f p j)
+          one (Two s j) p d 0 hs (eye lo (mid s && x) Nothing) (bodiesAt t zs) (hi ∥ (mid s && x)) (lines-two s x f p j 0 _ ∙ ap (λ y. hi ∥ (mid s && y)) up-x) (clear-two s x f p j)
           ∙ ap (bus Q (Three s (mid s && x)) p d 0 hs (eye hi (mid s && x) (Level (mid s && x)))) (quiet-tick asked t zs)
 
       -- phase 3: the plan gets the bit that was seen
       pub three-tick : tick Q asked (bus Q (Three s (mid s && x)) p d 0 hs (eye hi (mid s && x) (Level (mid s && x))) (bodiesAt t zs))
           ≡ atStart Q (late s) (Q .next d (late s && x)) hs (eye hi (late s && x) (kept s (late s && x))) (map (bodyTick asked (told s)) (bodiesAt t zs))
       three-tick =
-          one (Three s (mid s && x)) p d 0 hs (eye hi (mid s && x) (Level (mid s && x))) (bodiesAt t zs) (hi ∥ (late s && x)) (lines-three (mid s && x) 0 _ ∙ ap (λ y. hi ∥ (late s && y)) up-x) (clear-three s x f p)
+          one (Three s (mid s && x)) p d 0 hs (eye hi (mid s && x) (Level (mid s && x))) (bodiesAt t zs) (hi ∥ (late s && x)) (lines-three s x f p (mid s && x) 0 _ ∙ ap (λ y. hi ∥ (late s && y)) up-x) (clear-three s x f p)
           ∙ ap (λ (r : Row). atStart Q (r .three .sda) (Q .next d (late s && x)) hs (eyeAfter seen (hi ∥ (late s && x))) (map (bodyTick asked (eventOf seen (hi ∥ (late s && x)))) (bodiesAt t zs))) (clocked-row s x f p)
           ∙ ap₂ (λ (n : Noted) (v : Event). atStart Q (late s) (Q .next d (late s && x)) hs (eye hi (late s && x) n) (map (bodyTick asked v) (bodiesAt t zs))) (kept-is s x f) (told-is s x f (Level (mid s && x)))
         where
