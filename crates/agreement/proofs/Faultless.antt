@@ -37,7 +37,7 @@ module _ (Q : Plan) (asked : ℕ) (b : Bus (Q .State)) where
           subst (λ (i : ℕ). Clean Q asked (after Q asked i b)) (past n t (ltb-false n t e))
           (rw (after-add Q asked t (n - t) b) (more (n - t) (soon n t m l (ltb-false n t e))))
 
-  symbol-clean : {κ : Clock} {d : Q .State} {zs : List Timed} {p w : Bool} → At Q (after Q asked (κ .now) b) κ d zs p w → CleanTo (κ .now)
+  pub symbol-clean : {κ : Clock} {d : Q .State} {zs : List Timed} {p w : Bool} → At Q (after Q asked (κ .now) b) κ d zs p w → CleanTo (κ .now)
       → (s : Symbol) (x : Bool) → Q .ask d ≡ clocked s → up zs ≡ x → Fine s x → CleanTo (symbol κ .now)
   symbol-clean {κ} a c s x e u f =
       subst (λ (i : Clock). CleanTo (i .now)) (sym (symbol-is κ))
@@ -46,7 +46,7 @@ module _ (Q : Plan) (asked : ℕ) (b : Bus (Q .State)) where
       (symbol-through Q asked (setting Q a s x) (sound Q a s x u f) (λ n y. Clean Q asked y) (zero-clean Q asked _ (sound Q a s x u f)) (one-clean Q asked _ (sound Q a s x u f))
       (two-clean Q asked _ (sound Q a s x u f)) (three-clean Q asked _ (sound Q a s x u f)) k l)))
 
-  opening-clean : {κ : Clock} {d : Q .State} {zs : List Timed} → Rest Q (after Q asked (κ .now) b) κ d zs → CleanTo (κ .now)
+  pub opening-clean : {κ : Clock} {d : Q .State} {zs : List Timed} → Rest Q (after Q asked (κ .now) b) κ d zs → CleanTo (κ .now)
       → (k : ℕ) → Q .ask d ≡ first k → up zs ≡ true → CleanTo (pass (k + 4) κ .now)
   unfolding pass
   opening-clean {κ} {d} {zs} a c k e u =
@@ -56,7 +56,7 @@ module _ (Q : Plan) (asked : ℕ) (b : Bus (Q .State)) where
       (open-zero-clean Q asked d (κ .holds) (κ .now) zs u k) (open-one-clean Q asked d (κ .holds) (κ .now) zs u k) (open-two-clean Q asked d (κ .holds) (κ .now) zs u k)
       (open-three-clean Q asked d (κ .holds) (κ .now) zs u k) i l))
 
-  pub faultless : Watch Q asked
+  abbrev pub faultless : Watch Q asked
   faultless =
       record {
         bus = b;

@@ -7,3 +7,7 @@ pub mod Standing
 pub mod Interface
 pub mod Moments
 pub mod Faultless
+pub mod Bits
+pub mod Tuned
+pub mod Bytes
+pub mod Good
