@@ -11,3 +11,6 @@ pub mod Bits
 pub mod Tuned
 pub mod Bytes
 pub mod Good
+pub mod Quotas
+pub mod Messages
+pub mod Lists
