@@ -14,3 +14,7 @@ pub mod Good
 pub mod Quotas
 pub mod Messages
 pub mod Lists
+pub mod Right
+pub mod Board
+pub mod Runs
+pub mod Agree

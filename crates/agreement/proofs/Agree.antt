@@ -1,0 +1,66 @@
+-- Demand 3 over the transactions of a list: the bus at the plain reading's last tick, all of it, and no fault before. Assumes nothing.
+use Prim.Native.Nat.{ℕ, _<_}
+use mathlib.Core.Path.{_≡_, refl, ap, sym, _∙_}
+use mathlib.Core.List.{List, [], map}
+use native.Mathlib.Omega.{arith}
+use Rattle.lines.specs.Levels.{hi}
+use Rattle.lines.specs.Events.{opened}
+use Rattle.orders.specs.Results.{Batch}
+use Rattle.orders.specs.Marks.{Log}
+use Rattle.controller.specs.Ticks.{begun}
+use Rattle.controller.specs.Plan.{State, opens, orders}
+use Rattle.controller.specs.declared.Fault.the-variants.{Clear}
+use Rattle.controller.specs.declared.Phase.the-variants.{Over}
+use Rattle.eeprom.specs.Stages.{Body}
+use Rattle.eeprom.specs.declared.Stage.the-variants.{Deaf}
+use Rattle.bus.specs.Wires.{Bus, after}
+use Rattle.reading.specs.Plain.{World, transactions}
+use Rattle.reading.specs.Read.{cellOf, bodyOf}
+use Rattle.agreement.proofs.Maps.{map-by}
+use Rattle.agreement.proofs.Time.{bodyAt}
+use Rattle.agreement.proofs.Standing.{Small}
+use Rattle.agreement.proofs.Interface.{Idle}
+use Rattle.agreement.proofs.Moments.{Clean}
+use Rattle.agreement.proofs.Faultless.{faultless}
+use Rattle.agreement.proofs.Tuned.{wake}
+use Rattle.agreement.proofs.Good.{Good}
+use Rattle.agreement.proofs.Lists.{Runnables, list-goes}
+use Rattle.agreement.proofs.Board.{Asleep, asleep-at}
+
+-- before the first tick; after the last, at tick t
+abbrev pub first : List Batch → Log → List ℕ → List Body → Bus State
+first ts l hs bs = record { control = begun orders (opens ts l); holding = record { left = 0; list = hs }; eye = opened; chips = bs }
+
+abbrev pub final : World → Bus State
+final w =
+    record {
+      control = record { phase = Over Clear; was = hi; plan = opens [] (w .log) };
+      holding = record { left = 0; list = w .clock .holds };
+      eye = opened;
+      chips = map (bodyOf (w .clock .now)) (w .cells);
+    }
+
+-- the plain reading from there
+abbrev pub reads : (asked : ℕ) → List Batch → Log → List ℕ → List Body → World
+reads asked ts l hs bs = transactions asked ts (record { clock = record { now = 0; holds = hs }; cells = map cellOf bs; log = l })
+
+pub record Agrees (asked : ℕ) (b : Bus State) (w : World) : Type 0 where
+  pub last : after orders asked (w .clock .now) b ≡ final w
+  pub clean : (n : ℕ) → n < w .clock .now → Clean orders asked (after orders asked n b)
+
+pub agree : (asked : ℕ) (ts : List Batch) (l : Log) (hs : List ℕ) (bs : List Body) → Runnables ts → Small hs → Asleep bs → Good (map cellOf bs)
+    → Agrees asked (first ts l hs bs) (reads asked ts l hs bs)
+unfolding after
+agree asked ts l hs bs k s a g =
+    let b : Bus State = first ts l hs bs in
+    let w : World = reads asked ts l hs bs in
+    let o : Idle orders asked (faultless orders asked b) (faultless orders asked b .Before) (record { now = 0; holds = hs }) (opens ts l) (map (wake Deaf) (map cellOf bs)) =
+            record { rest = record { is = ap (first ts l hs) (asleep-at bs a); small = s }; tale = λ n h. absurd (omega arith) } in
+    let r : Idle orders asked (faultless orders asked b) (faultless orders asked b .Before) (w .clock) (opens [] (w .log)) (map (wake Deaf) (w .cells)) =
+            list-goes asked (faultless orders asked b) (λ κ d zs t. t) ts l (map cellOf bs) k g o in
+    record {
+      last = r .rest .is
+          ∙ ap (λ (x : List Body). record { control = record { phase = Over Clear; was = hi; plan = opens [] (w .log) }; holding = record { left = 0; list = w .clock .holds }; eye = opened; chips = x })
+          (map-by (bodyAt (w .clock .now)) (wake Deaf) (bodyOf (w .clock .now)) (λ c. refl) (w .cells));
+      clean = r .tale;
+    }
