@@ -18,3 +18,4 @@ pub mod Right
 pub mod Board
 pub mod Runs
 pub mod Agree
+pub mod Tally

@@ -46,7 +46,7 @@ unfolding allWithin
 small-first [] s = omega arith
 small-first (h ∷ hs) s = leb-true h mostHeld (and-left (leb h mostHeld) _ s)
 
-small-later : (hs : List ℕ) → Small hs → Small (laterHolds hs)
+pub small-later : (hs : List ℕ) → Small hs → Small (laterHolds hs)
 unfolding allWithin
 small-later [] s = s
 small-later (h ∷ hs) s = and-right (leb h mostHeld) _ s
