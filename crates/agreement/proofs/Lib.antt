@@ -19,3 +19,4 @@ pub mod Board
 pub mod Runs
 pub mod Agree
 pub mod Tally
+pub mod Frames

@@ -53,7 +53,7 @@ held-small (suc n) hs s =
     sum r h n k a b = omega arith
 
 -- the bytes that a message sends, its address counted
-abbrev dataSent : (Cell → Bool) → Order → World → ℕ
+abbrev pub dataSent : (Cell → Bool) → Order → World → ℕ
 dataSent f (put ys) w = length ys
 dataSent f (get q) w = suc (follow q (valueOf f (w .cells)))
 
