@@ -20,3 +20,5 @@ pub mod Runs
 pub mod Agree
 pub mod Tally
 pub mod Frames
+pub mod Sent
+pub mod Totals

@@ -1,3 +1,4 @@
 pub mod Between
 pub mod Course
 pub mod Sums
+pub mod Outcomes
