@@ -22,3 +22,5 @@ pub mod Tally
 pub mod Frames
 pub mod Sent
 pub mod Totals
+pub mod Area
+pub mod Bounds
