@@ -1,7 +1,7 @@
 -- Demand 3 over the transactions of a list: the bus at the plain reading's last tick, all of it, and no fault before. Assumes nothing.
 use Prim.Native.Nat.{ℕ, _<_}
-use mathlib.Core.Path.{_≡_, refl, ap, sym, _∙_}
-use mathlib.Core.List.{List, [], map}
+use mathlib.Core.Path.{_≡_, refl, ap, sym, _∙_, subst}
+use mathlib.Core.List.{List, [], _++_, map, append-nil}
 use native.Mathlib.Omega.{arith}
 use Rattle.lines.specs.Levels.{hi}
 use Rattle.lines.specs.Events.{opened}
@@ -48,19 +48,24 @@ pub record Agrees (asked : ℕ) (b : Bus State) (w : World) : Type 0 where
   pub last : after orders asked (w .clock .now) b ≡ final w
   pub clean : (n : ℕ) → n < w .clock .now → Clean orders asked (after orders asked n b)
 
-pub agree : (asked : ℕ) (ts : List Batch) (l : Log) (hs : List ℕ) (bs : List Body) → Runnables ts → Small hs → Asleep bs → Good (map cellOf bs)
-    → Agrees asked (first ts l hs bs) (reads asked ts l hs bs)
-unfolding after
-agree asked ts l hs bs k s a g =
-    let b : Bus State = first ts l hs bs in
-    let w : World = reads asked ts l hs bs in
-    let o : Idle orders asked (faultless orders asked b) (faultless orders asked b .Before) (record { now = 0; holds = hs }) (opens ts l) (map (wake Deaf) (map cellOf bs)) =
-            record { rest = record { is = ap (first ts l hs) (asleep-at bs a); small = s }; tale = λ n h. absurd (omega arith) } in
-    let r : Idle orders asked (faultless orders asked b) (faultless orders asked b .Before) (w .clock) (opens [] (w .log)) (map (wake Deaf) (w .cells)) =
-            list-goes asked (faultless orders asked b) (λ κ d zs t. t) ts l (map cellOf bs) k g o in
-    record {
-      last = r .rest .is
-          ∙ ap (λ (x : List Body). record { control = record { phase = Over Clear; was = hi; plan = opens [] (w .log) }; holding = record { left = 0; list = w .clock .holds }; eye = opened; chips = x })
-          (map-by (bodyAt (w .clock .now)) (wake Deaf) (bodyOf (w .clock .now)) (λ c. refl) (w .cells));
-      clean = r .tale;
-    }
+module _ (asked : ℕ) (ts : List Batch) (l : Log) (hs : List ℕ) (bs : List Body) (k : Runnables ts) (s : Small hs) (a : Asleep bs) (g : Good (map cellOf bs)) where
+  -- after the transactions of a list the bus is at rest, those that follow still to come
+  pub rests : (later : List Batch)
+      → let w = reads asked ts l hs bs in
+      let b = first (ts ++ later) l hs bs in
+      Idle orders asked (faultless orders asked b) (faultless orders asked b .Before) (w .clock) (opens later (w .log)) (map (wake Deaf) (w .cells))
+  unfolding after
+  rests later =
+      list-goes asked (faultless orders asked (first (ts ++ later) l hs bs)) (λ κ d zs t. t) ts later l (map cellOf bs) k g
+      (record { rest = record { is = ap (first (ts ++ later) l hs) (asleep-at bs a); small = s }; tale = λ n h. absurd (omega arith) })
+
+  pub agree : Agrees asked (first ts l hs bs) (reads asked ts l hs bs)
+  agree =
+      let w : World = reads asked ts l hs bs in
+      subst (λ (us : List Batch). Agrees asked (first us l hs bs) w) (append-nil ts)
+      (record {
+        last = rests [] .rest .is
+            ∙ ap (λ (x : List Body). record { control = record { phase = Over Clear; was = hi; plan = opens [] (w .log) }; holding = record { left = 0; list = w .clock .holds }; eye = opened; chips = x })
+            (map-by (bodyAt (w .clock .now)) (wake Deaf) (bodyOf (w .clock .now)) (λ c. refl) (w .cells));
+        clean = rests [] .tale;
+      })

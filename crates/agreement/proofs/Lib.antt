@@ -24,3 +24,4 @@ pub mod Sent
 pub mod Totals
 pub mod Area
 pub mod Bounds
+pub mod Accepted

@@ -2,7 +2,7 @@
 use Prim.Native.Nat.{ℕ, _+_}
 use mathlib.Core.Path.{_≡_, refl, ap, sym, _∙_, subst}
 use mathlib.Core.Bool.{Bool, true, false, _||_, not, cond}
-use mathlib.Core.List.{List, [], _∷_, map}
+use mathlib.Core.List.{List, [], _∷_, _++_, map}
 use Rattle.lines.specs.declared.Event.the-variants.{Started, Stopped}
 use Rattle.orders.specs.Kinds.{isCritical}
 use Rattle.orders.specs.Results.{Slotted, Batch}
@@ -116,16 +116,16 @@ pub good-transaction : (asked : ℕ) (t : Batch) (w : World) → Good (w .cells)
 good-transaction asked t w g =
     good-stores asked _ (messages (t .others) (t .first) (opened t w) .cells) (good-messages (t .others) (t .first) (opened t w) (good-all tame-starts (w .cells) g))
 
--- all of them, with a watch that can be taken up again after each
+-- any number of them, with a watch that can be taken up again after each; others may follow
 module _ (asked : ℕ) (O : Watch orders asked) (again : (κ : Clock) (d : State) (zs : List Timed) → O .After κ d zs → O .Before κ d zs) where
-  pub list-goes : (ts : List Batch) {κ : Clock} (l : Log) (cs : List Cell) → Runnables ts → Good cs
-      → Idle orders asked O (O .Before) κ (opens ts l) (map (wake Deaf) cs)
+  pub list-goes : (ts later : List Batch) {κ : Clock} (l : Log) (cs : List Cell) → Runnables ts → Good cs
+      → Idle orders asked O (O .Before) κ (opens (ts ++ later) l) (map (wake Deaf) cs)
       → let w = transactions asked ts (record { clock = κ; cells = cs; log = l }) in
-      Idle orders asked O (O .Before) (w .clock) (opens [] (w .log)) (map (wake Deaf) (w .cells))
+      Idle orders asked O (O .Before) (w .clock) (opens later (w .log)) (map (wake Deaf) (w .cells))
   unfolding transactions
-  list-goes [] l cs k g o = o
-  list-goes (t ∷ ts) {κ} l cs k g o =
+  list-goes [] later l cs k g o = o
+  list-goes (t ∷ ts) later {κ} l cs k g o =
       let w : World = transaction asked t (record { clock = κ; cells = cs; log = l }) in
-      let r : Idle orders asked O (O .After) (w .clock) (opens ts (w .log)) (map (wake Deaf) (w .cells)) = transaction-goes asked O t ts l cs (k .0) g o in
-      list-goes ts (w .log) (w .cells) (k .1) (good-transaction asked t (record { clock = κ; cells = cs; log = l }) g)
-      (record { rest = r .rest; tale = again (w .clock) (opens ts (w .log)) (map (wake Deaf) (w .cells)) (r .tale) })
+      let r : Idle orders asked O (O .After) (w .clock) (opens (ts ++ later) (w .log)) (map (wake Deaf) (w .cells)) = transaction-goes asked O t (ts ++ later) l cs (k .0) g o in
+      list-goes ts later (w .log) (w .cells) (k .1) (good-transaction asked t (record { clock = κ; cells = cs; log = l }) g)
+      (record { rest = r .rest; tale = again (w .clock) (opens (ts ++ later) (w .log)) (map (wake Deaf) (w .cells)) (r .tale) })
