@@ -39,7 +39,7 @@ none-given zero false false false false true h = absurd (omega arith)
 none-given zero false false false false false h = record { one-two = refl; three = refl; four = refl; five = refl; six = refl; seven = refl }
 
 module _ (list : List ℕ) (marks : ℕ) (memory states holds : List ℕ) (asked : ℕ) (results : List ℕ) where
-  -- number 0 is given exactly where no test fires
+  -- number 0 says that none of the tests fires
   pub accepted : busNumber list marks memory states holds asked results ≡ 0
       → None (listNumber (checkOf list)) (not (eqb (length memory) (memoryAt marks 8) && eqb (length states) (4 * chipCount marks)))
       (not (statesRight (bodies marks memory states))) (not (allWithin mostHeld holds)) (ltb mostBusy asked) (ltb (length results) (areaOf (transactionsOf list)))

@@ -25,3 +25,5 @@ pub mod Totals
 pub mod Area
 pub mod Bounds
 pub mod Accepted
+pub mod Ending
+pub mod Demand3
