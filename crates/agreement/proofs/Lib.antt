@@ -26,4 +26,5 @@ pub mod Area
 pub mod Bounds
 pub mod Accepted
 pub mod Ending
+pub mod Overwritten
 pub mod Demand3
