@@ -28,3 +28,5 @@ pub mod Accepted
 pub mod Ending
 pub mod Overwritten
 pub mod Demand3
+pub mod Splits
+pub mod Formula

@@ -54,3 +54,8 @@ ticksOf wait s hs = wait + 4 * (clockedIn s + 1) + held (clockedIn s) hs
 unfoldable pub ticksAll : (area holds : List ℕ) → List Batch → ℕ
 ticksAll a hs [] = 0
 ticksAll a hs (t ∷ ts) = ticksOf (t .wait) (sumIn a t) hs + ticksAll a (drop (clockedIn (sumIn a t)) hs) ts
+
+-- the clocked symbols of all of them
+unfoldable pub clockedAll : (area : List ℕ) → List Batch → ℕ
+clockedAll a [] = 0
+clockedAll a (t ∷ ts) = clockedIn (sumIn a t) + clockedAll a ts
