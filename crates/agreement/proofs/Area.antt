@@ -7,7 +7,7 @@ use lib.ListN.{length, getD, drop, replicate, length-append, length-drop, length
 use lib.Seq.{getD-append-add}
 use Rattle.orders.specs.Form.{Transaction}
 use Rattle.orders.specs.Results.{slotsOfAll, areaOf, blankArea, startArea}
-use Rattle.agreement.proofs.Sent.{sizeOf}
+use Rattle.agreement.specs.Course.{sizeOf}
 use Rattle.agreement.proofs.Totals.{Ready}
 
 length-blank : (ts : List Transaction) → length (blankArea ts) ≡ areaOf ts

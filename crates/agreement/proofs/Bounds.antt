@@ -15,13 +15,12 @@ use Rattle.controller.specs.Bound.{bytesOf, clockedOf, mostTicks}
 use Rattle.bus.specs.Holding.{laterHolds}
 use Rattle.reading.specs.Clock.{symbol}
 use Rattle.reading.specs.Plain.{World, valueOf, listening, answered, message, started, transactions}
-use Rattle.agreement.specs.Course.{opened, transaction}
+use Rattle.agreement.specs.Course.{here, batchAt, sizeOf, opened, transaction}
 use Rattle.agreement.specs.Sums.{Sum, alone, with, clockedIn, ticksOf}
 use Rattle.agreement.proofs.Quotas.{quota-fits}
 use Rattle.agreement.proofs.Standing.{Small, small-later}
 use Rattle.agreement.proofs.Right.{Right, Rights, RightAll}
 use Rattle.agreement.proofs.Tally.{dataSent, bytesSent, tally, ticks-by-tally, holds-by-tally, ticks-bound}
-use Rattle.agreement.proofs.Sent.{here, batchAt, sizeOf}
 
 bytes-bound : (m : Message) (s : ℕ) (w : World) → Right m → bytesSent (here s m) w ≤ bytesOf m
 bytes-bound m s w k = go (answered (here s m) w)

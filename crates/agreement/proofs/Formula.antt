@@ -1,7 +1,7 @@
 -- The ticks of demand 3's formula, with m and L by the list and the results: of the whole run, and of each transaction on the wires. Assumes nothing.
 use Prim.Native.Nat.{ℕ, _+_, _*_, _≤_, _<_}
 use mathlib.Core.Path.{_≡_, refl, ap, sym, _∙_, subst}
-use mathlib.Core.List.{List, [], _∷_, _++_, map}
+use mathlib.Core.List.{List, [], _∷_, _++_, map, append-assoc}
 use native.Mathlib.Omega.{arith}
 use lib.ListN.{length, getD, drop}
 use Rattle.lines.specs.Levels.{mostHeld}
@@ -14,8 +14,9 @@ use Rattle.bus.specs.Wires.{Bus, after}
 use Rattle.bus.specs.Run.{start}
 use Rattle.reading.specs.Plain.{World, transactions}
 use Rattle.reading.specs.Read.{cellOf, plain, plainRun}
-use Rattle.agreement.specs.Begins.{Begins}
-use Rattle.agreement.specs.Sums.{Sum, clockedIn, ticksOf, ticksAll}
+use Rattle.agreement.specs.Course.{batchAt, sizeOf}
+use Rattle.agreement.specs.Takes.{Begins, Takes}
+use Rattle.agreement.specs.Sums.{Sum, sumIn, clockedIn, ticksOf, ticksAll, clockedAll}
 use Rattle.agreement.proofs.Standing.{Small}
 use Rattle.agreement.proofs.Good.{Bytes}
 use Rattle.agreement.proofs.Right.{RightAll, transactions-right}
@@ -27,12 +28,11 @@ use Rattle.agreement.proofs.Area.{length-start, start-ready}
 use Rattle.agreement.proofs.Bounds.{small-drop}
 use Rattle.agreement.proofs.Accepted.{holds-small, area-fits, runnables}
 use Rattle.agreement.proofs.Demand3.{plain-is}
-use Rattle.agreement.proofs.Splits.{right-before, right-after, ready-before, area-append, batches-append, transactions-append, ticks-alike}
+use Rattle.agreement.proofs.Splits.{right-before, right-after, ready-before, area-append, batches-append, transactions-append, ticks-alike, ticks-one-more, area-one, last-batch}
 
--- never over 20(m + 9L) + 4 after the wait
-pub never-over : (wait : ℕ) (s : Sum) (hs : List ℕ) → Small hs → ticksOf wait s hs ≤ wait + (20 * clockedIn s + 4)
+bounded : (wait : ℕ) (s : Sum) (hs : List ℕ) → Small hs → ticksOf wait s hs ≤ wait + (20 * clockedIn s + 4)
 unfolding mostHeld
-never-over wait s hs h = ticks-bound wait s hs h
+bounded wait s hs h = ticks-bound wait s hs h
 
 module _ (list : List ℕ) (marks : ℕ) (memory states holds : List ℕ) (asked : ℕ) (results : List ℕ) (bytes : Bytes list) (filled : Bytes memory)
     (e : busNumber list marks memory states holds asked results ≡ 0) where
@@ -100,3 +100,20 @@ module _ (list : List ℕ) (marks : ℕ) (memory states holds : List ℕ) (asked
           ∙ zero-first (ticksAll (v .log .area) holds (batches 0 before))
           ∙ sym (ticks-alike before 0 (v .log .area) (answer .results) holds
           (λ i l r. ap (λ (a : List ℕ). getD a i 0) area ∙ list-frame asked later (areaOf before) v (right-after before later all) .below i (subst (λ (n : ℕ). i < n) (zero-first (areaOf before)) r)))
+
+  -- a transaction that sends m messages and L bytes takes its asked wait, plus 4(m + 9L + 1) ticks, plus its holds: never over 20(m + 9L) + 4 after the wait
+  pub transaction-takes : (before later : List Transaction) (t : Transaction) → transactionsOf list ≡ before ++ (t ∷ later) 
+      → Takes asked (start list marks memory states holds results) (answer .results) holds before later t
+  transaction-takes before later t q =
+      record {
+        begins = transaction-begins before (t ∷ later) q;
+        ends = subst (λ (n : ℕ). Begins (after orders asked n (start list marks memory states holds results)) (batches (areaOf before + sizeOf t) later)) longer
+            (subst (λ (n : ℕ). Begins (after orders asked (ticksAll (answer .results) holds (batches 0 (before ++ (t ∷ [])))) (start list marks memory states holds results)) (batches n later))
+            (area-append before (t ∷ []) ∙ ap (λ (n : ℕ). areaOf before + n) (area-one t)) (transaction-begins (before ++ (t ∷ [])) later (q ∙ sym (append-assoc before (t ∷ []) later))));
+        never-over = bounded (t .wait) (sumIn (answer .results) (batchAt (areaOf before) t)) (drop (clockedAll (answer .results) (batches 0 before)) holds)
+            (small-drop (clockedAll (answer .results) (batches 0 before)) holds (holds-small list marks memory states holds asked results e));
+      }
+    where
+      longer : ticksAll (answer .results) holds (batches 0 (before ++ (t ∷ [])))
+          ≡ ticksAll (answer .results) holds (batches 0 before) + ticksOf (t .wait) (sumIn (answer .results) (batchAt (areaOf before) t)) (drop (clockedAll (answer .results) (batches 0 before)) holds)
+      longer = ap (ticksAll (answer .results) holds) (last-batch before t) ∙ ticks-one-more (answer .results) holds (batches 0 before) (batchAt (areaOf before) t)

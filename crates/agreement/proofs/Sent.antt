@@ -15,14 +15,11 @@ use Rattle.orders.specs.Results.{Slotted, Batch, slotsOf, slotsOfAll, slotted}
 use Rattle.orders.specs.Marks.{note}
 use Rattle.reading.specs.Clock.{symbol}
 use Rattle.reading.specs.Plain.{World, listening, answered, message, started, messages}
-use Rattle.agreement.specs.Course.{opened, transaction}
+use Rattle.agreement.specs.Course.{here, batchAt, sizeOf, opened, transaction}
 use Rattle.agreement.specs.Sums.{Sum, flagged, bytesBy, alone, with, sumOf, sumIn}
 use Rattle.agreement.proofs.Right.{Right, Rights}
 use Rattle.agreement.proofs.Tally.{dataSent, bytesSent, tally}
 use Rattle.agreement.proofs.Frames.{Frame, frame-then, frame-wider, frame-set, Slot, message-frame, message-slot}
-
-abbrev pub here : ℕ → Message → Slotted
-here s m = record { message = m; slot = s }
 
 -- the places from lo to before hi hold 0
 abbrev pub Blank : (lo hi : ℕ) → List ℕ → Type 0
@@ -135,14 +132,6 @@ messages-sum (n ∷ ms) m s w k ks z l =
         ≡ cond b (with (suc c) (tally others next v)) (alone (suc c))
     go true e g i = sum-step m s c q others next (tally others next v) true (r .log .area) (slot-framed (omega arith) g h) (λ x. i) e
     go false e g i = sum-step m s c q others next (tally others next v) false (message (here s m) w .log .area) h (λ x. absurd (false≢true x)) e
-
--- a transaction whose outcome's place is top
-abbrev pub batchAt : ℕ → Transaction → Batch
-batchAt top t =
-    record { wait = t .wait; first = here (top + 1) (t .first); others = slotted (top + 1 + slotsOf (t .first)) (t .others); top = top }
-
-abbrev pub sizeOf : Transaction → ℕ
-sizeOf t = 1 + slotsOfAll (t .first ∷ t .others)
 
 module _ (asked : ℕ) (t : Transaction) (top : ℕ) (w : World) (k : Right (t .first)) (ks : Rights (t .others)) where
   abbrev sent : World

@@ -8,10 +8,10 @@ use lib.Seq.{drop-drop}
 use Rattle.orders.specs.Form.{Transaction}
 use Rattle.orders.specs.Results.{Batch, areaOf, batches}
 use Rattle.reading.specs.Plain.{World, transactions}
-use Rattle.agreement.specs.Course.{transaction}
+use Rattle.agreement.specs.Course.{batchAt, sizeOf, transaction}
 use Rattle.agreement.specs.Sums.{Sum, sumIn, clockedIn, ticksOf, ticksAll, clockedAll}
 use Rattle.agreement.proofs.Right.{RightAll}
-use Rattle.agreement.proofs.Sent.{Alike, sum-alike, batchAt, sizeOf}
+use Rattle.agreement.proofs.Sent.{Alike, sum-alike}
 use Rattle.agreement.proofs.Totals.{Ready}
 
 pub right-before : (xs ys : List Transaction) → RightAll (xs ++ ys) → RightAll xs
@@ -45,6 +45,21 @@ batches-append (x ∷ xs) ys top =
   where
     sum : (x y z : ℕ) → x + y + z ≡ x + (y + z)
     sum x y z = omega arith
+
+-- one more transaction
+pub area-one : (t : Transaction) → areaOf (t ∷ []) ≡ sizeOf t
+unfolding areaOf
+area-one t = none (sizeOf t)
+  where
+    none : (n : ℕ) → n + 0 ≡ n
+    none n = omega arith
+
+pub last-batch : (xs : List Transaction) (t : Transaction) → batches 0 (xs ++ (t ∷ [])) ≡ batches 0 xs ++ (batchAt (areaOf xs) t ∷ [])
+unfolding batches
+last-batch xs t = batches-append xs (t ∷ []) 0 ∙ ap (λ (n : ℕ). batches 0 xs ++ (batchAt n t ∷ [])) (none (areaOf xs))
+  where
+    none : (n : ℕ) → 0 + n ≡ n
+    none n = omega arith
 
 pub transactions-append : (asked : ℕ) (xs ys : List Batch) (w : World) → transactions asked (xs ++ ys) w ≡ transactions asked ys (transactions asked xs w)
 unfolding transactions

@@ -15,7 +15,7 @@ use Rattle.orders.specs.Results.{Slotted, Batch, slotsOf, slotsOfAll, areaOf, b
 use Rattle.controller.specs.Bound.{bytesOf, clockedOf, mostTicks}
 use Rattle.reading.specs.Clock.{symbol}
 use Rattle.reading.specs.Plain.{World, valueOf, listening, answered, message, started, transactions}
-use Rattle.agreement.specs.Course.{opened, transaction}
+use Rattle.agreement.specs.Course.{here, batchAt, sizeOf, opened, transaction}
 use Rattle.agreement.specs.Sums.{Sum, alone, with, sumIn, clockedIn, ticksOf, ticksAll}
 use Rattle.agreement.specs.Outcomes.{AllClosed}
 use Rattle.agreement.proofs.Quotas.{quota-fits}
@@ -23,7 +23,7 @@ use Rattle.agreement.proofs.Standing.{Small, small-later}
 use Rattle.agreement.proofs.Right.{Right, Rights, RightAll}
 use Rattle.agreement.proofs.Tally.{dataSent, bytesSent, tally, ticks-by-tally, holds-by-tally, ticks-bound}
 use Rattle.agreement.proofs.Frames.{Frame, frame-none, frame-then, frame-wider}
-use Rattle.agreement.proofs.Sent.{here, Blank, sum-alike, batchAt, sizeOf, transaction-frame, transaction-outcome, transaction-sum}
+use Rattle.agreement.proofs.Sent.{Blank, sum-alike, transaction-frame, transaction-outcome, transaction-sum}
 
 -- the slots of all messages hold 0
 abbrev pub Ready : ℕ → List Transaction → List ℕ → Type 0

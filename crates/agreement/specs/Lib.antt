@@ -1,5 +1,5 @@
 pub mod Between
 pub mod Course
 pub mod Sums
-pub mod Begins
+pub mod Takes
 pub mod Outcomes
