@@ -1,18 +1,17 @@
 -- The chips that the marks name, over the lent memory and states: distinct addresses, bytes in their memories, and all of them not addressed. Assumes
 -- nothing.
 use Prim.Native.Nat.{ℕ, zero, suc, _+_, _-_, _<_}
-use mathlib.Core.Path.{_≡_, refl, ap₂, sym, _∙_}
+use mathlib.Core.Path.{_≡_, refl, ap₂}
 use mathlib.Core.Bool.{Bool, true, false, cond}
 use mathlib.Core.List.{List, [], _∷_, map}
 use native.Mathlib.Omega.{arith}
 use borrow.Author.Tests.{ne-eqb}
-use lib.ListN.{take, drop}
+use lib.ListN.{drop}
 use Rattle.lines.specs.Levels.{bitAt}
 use Rattle.eeprom.specs.Pages.{geometryOf}
 use Rattle.eeprom.specs.Stages.{Body}
 use Rattle.eeprom.specs.declared.Stage.the-variants.{Deaf}
 use Rattle.board.specs.Marks.{modelAt, memoryAt, bodyAt, bodiesFrom, bodies}
-use Rattle.reading.specs.Plain.{Cell}
 use Rattle.reading.specs.Read.{cellOf}
 use Rattle.agreement.proofs.Time.{bodiesAt}
 use Rattle.agreement.proofs.Tuned.{wake}
@@ -30,6 +29,7 @@ asleep-at (b ∷ bs) h = ap₂ (λ (x : Body) (xs : List Body). x ∷ xs) (same 
   where
     less : (n : ℕ) → n ≡ n - 0
     less n = omega arith
+
     same : (b : Body) → b .core .stage ≡ Deaf → b ≡ record { core = record { stage = Deaf; kept = b .core .kept }; busy = b .busy - 0 }
     same b e = ap₂ (λ s n. record { core = record { stage = s; kept = b .core .kept }; busy = n }) e (less (b .busy))
 
@@ -44,8 +44,10 @@ module _ (marks : ℕ) (memory states : List ℕ) where
     where
       later : (a s : ℕ) → a < 80 + s → a < 80 + suc s
       later a s h = omega arith
+
       other : (a s : ℕ) → a < 80 + s → a ≡ 80 + s → ⊥
       other a s h e = omega arith
+
       go : (q : Bool) → Absent a (map cellOf (from n (suc s))) → Absent a (map cellOf (cond q (bodyAt marks memory states s ∷ from n (suc s)) (from n (suc s))))
       go true x = (ne-eqb a (80 + s) (other a s h), x)
       go false x = x
@@ -57,6 +59,7 @@ module _ (marks : ℕ) (memory states : List ℕ) where
     where
       next : (s : ℕ) → 80 + s < 80 + suc s
       next s = omega arith
+
       go : (q : Bool) → Distinct (map cellOf (from n (suc s))) → Distinct (map cellOf (cond q (bodyAt marks memory states s ∷ from n (suc s)) (from n (suc s))))
       go true x = (absent n (suc s) (80 + s) (next s), x)
       go false x = x

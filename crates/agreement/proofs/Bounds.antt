@@ -1,6 +1,6 @@
 -- The plain reading never takes more ticks than the list's own bound. Assumes nothing.
 use Prim.Native.Nat.{ℕ, zero, suc, _+_, _*_, _≤_}
-use mathlib.Core.Path.{_≡_, refl, ap, sym, _∙_, subst}
+use mathlib.Core.Path.{_≡_, refl, sym, subst}
 use mathlib.Core.Bool.{Bool, true, false, _||_, not, cond}
 use mathlib.Core.List.{List, [], _∷_}
 use native.Mathlib.Omega.{arith}
@@ -12,7 +12,6 @@ use Rattle.orders.specs.Form.{Message, Transaction}
 use Rattle.orders.specs.Asking.{put, get, orderOf}
 use Rattle.orders.specs.Results.{Batch, slotsOf, slotted, batches}
 use Rattle.controller.specs.Bound.{bytesOf, clockedOf, mostTicks}
-use Rattle.bus.specs.Holding.{laterHolds}
 use Rattle.reading.specs.Clock.{symbol}
 use Rattle.reading.specs.Plain.{World, valueOf, listening, answered, message, started, transactions}
 use Rattle.agreement.specs.Course.{here, batchAt, sizeOf, opened, transaction}
@@ -27,17 +26,23 @@ bytes-bound m s w k = go (answered (here s m) w)
   where
     d : ℕ
     d = dataOf (m .kind) (m .asked)
+
     r : ℕ
     r = askedOf (m .kind) (m .asked)
+
     least : (d r : ℕ) → suc 0 ≤ 1 + d + r
     least d r = omega arith
+
     put-fits : (n d r : ℕ) → n ≡ d → suc n ≤ 1 + d + r
     put-fits n d r e = omega arith
+
     get-fits : (n d r : ℕ) → n ≤ r → suc n ≤ 1 + d + r
     get-fits n d r l = omega arith
+
     carry : (q : Bool) → isWrite (m .kind) ≡ q → suc (dataSent (listening (here s m) w) (cond q (put (m .sent)) (get (quotaOf (m .kind) (m .asked)))) w) ≤ 1 + d + r
     carry true e = put-fits (length (m .sent)) d r (k .form .sent)
     carry false e = get-fits _ d r (quota-fits (m .kind) (m .asked) (valueOf (listening (here s m) w) (w .cells)) e (k .form .asked))
+
     go : (q : Bool) → suc (cond q (dataSent (listening (here s m) w) (orderOf m) w) 0) ≤ 1 + d + r
     go true = carry (isWrite (m .kind)) refl
     go false = least d r
@@ -55,8 +60,10 @@ tally-bound (n ∷ ms) m s w k ks =
   where
     more : (x y j b c : ℕ) → x ≤ y → j + 9 * b ≤ c → suc j + 9 * (x + b) ≤ 1 + 9 * y + c
     more x y j b c l h = omega arith
+
     last : (x y c : ℕ) → x ≤ y → 1 + 9 * x ≤ 1 + 9 * y + c
     last x y c l = omega arith
+
     go : (q : Bool) (x : ℕ) (t : Sum) → x ≤ bytesOf m → clockedIn t ≤ clockedOf (n ∷ ms)
         → clockedIn (cond q (with x t) (alone x)) ≤ 1 + 9 * bytesOf m + clockedOf (n ∷ ms)
     go true x t l h = more x (bytesOf m) (t .messages) (t .bytes) (clockedOf (n ∷ ms)) l h
@@ -78,9 +85,12 @@ list-bound asked (t ∷ ts) top w k s =
   where
     b : Batch
     b = batchAt top t
+
     v : World
     v = transaction asked b w
+
     c : Sum
     c = tally (b .others) (b .first) (opened b w)
+
     join : (n x k i j h r e m : ℕ) → e ≤ m + r → m ≡ n + x → x ≤ k + (h * i + 4) → i ≤ j → e ≤ n + (k + 4 + h * j + r)
     join n x k i j h r e m a p l o = omega (arith, mul-le-mul-left h o)

@@ -1,11 +1,11 @@
 -- From symbols to bytes: eight bits, each one induction, and the ninth symbol, of an address byte, of a byte written and of a byte read. Assumes nothing.
 use Prim.Native.Nat.{ℕ, zero, suc, _/_, _%_}
 use mathlib.Core.Path.{_≡_, refl, ap, sym, _∙_, subst}
-use mathlib.Core.Bool.{Bool, true, false, _&&_, not, cond}
+use mathlib.Core.Bool.{Bool, true, false, not, cond}
 use mathlib.Core.List.{List, map}
 use native.Mathlib.Omega.{arith}
 use borrow.Author.Tests.{ne-eqb}
-use lib.Dec.{eqb, leb}
+use lib.Dec.{eqb}
 use Rattle.lines.specs.Levels.{bitAt, shifted}
 use Rattle.lines.specs.declared.Event.the-variants.{Bit}
 use Rattle.orders.specs.Kinds.{follow}
@@ -16,7 +16,7 @@ use Rattle.controller.specs.Plan.{Context, State, addressing, addressed, writin
 use Rattle.eeprom.specs.Keeping.{takes, steps}
 use Rattle.eeprom.specs.Stages.{named, hears, sdaOf}
 use Rattle.eeprom.specs.declared.Stage.{Stage}
-use Rattle.eeprom.specs.declared.Stage.the-variants.{Deaf, Naming, Named, Taking, Taken, Sending, Asking}
+use Rattle.eeprom.specs.declared.Stage.the-variants.{Deaf, Naming, Named, Taking, Taken, Asking}
 use Rattle.reading.specs.Clock.{Clock, symbol, symbols}
 use Rattle.reading.specs.Plain.{Cell, listens, anyOf, does, only, valueOf}
 use Rattle.agreement.proofs.Maps.{map-by}

@@ -8,16 +8,12 @@ use native.Mathlib.Omega.{arith}
 use borrow.Author.Tests.{eqb-true, eq-eqb}
 use lib.Dec.{eqb}
 use lib.ListN.{length, getD}
-use Rattle.lines.specs.Levels.{released, byteOf}
+use Rattle.lines.specs.Levels.{byteOf}
 use Rattle.lines.specs.Records.{over}
 use Rattle.orders.specs.Form.{transactionsOf}
 use Rattle.orders.specs.Results.{areaOf, batches}
-use Rattle.controller.specs.Faults.{faultOf}
 use Rattle.controller.specs.Plan.{State, orders}
 use Rattle.controller.specs.Bound.{mostTicks}
-use Rattle.controller.specs.declared.Fault.the-variants.{Clear}
-use Rattle.controller.specs.declared.Phase.the-variants.{Over}
-use Rattle.eeprom.specs.Stages.{Body}
 use Rattle.board.specs.Desk.{Outcome, busNumber, ran, refusal}
 use Rattle.bus.specs.Wires.{Bus, Ran, linesOn, after, run}
 use Rattle.bus.specs.Run.{Traced, wireRun}
@@ -63,8 +59,10 @@ module _ (list : List ℕ) (marks : ℕ) (memory states holds : List ℕ) (asked
     where
       done : Traced
       done = record { outcome = toldBy whole; trace = over (whole .row) trace }
+
       stays : Traced
       stays = record { outcome = refusal number memory states results; trace = trace }
+
       go : (q : Bool) → eqb number 0 ≡ q
           → cond q done stays .outcome
           ≡ cond q (ran (plainly .clock .now) (map (bodyOf (plainly .clock .now)) (plainly .cells)) (plainly .log .area)) (refusal number memory states results)
@@ -98,6 +96,7 @@ module _ (list : List ℕ) (marks : ℕ) (memory states holds : List ℕ) (asked
       where
         fits : areaOf (transactionsOf list) ≤ length results
         fits = area-fits list marks memory states holds asked results e
+
         fewer : (n : ℕ) → n ≤ length results → 0 + n ≤ length results
         fewer n l = omega arith
 

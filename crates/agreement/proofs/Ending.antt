@@ -1,12 +1,10 @@
 -- The run of an accepted input: its last bus is the plain reading's, it ends after exactly the plain reading's ticks, and it does not depend on the number
 -- that bounds it. Assumes nothing.
-use Prim.Native.Nat.{ℕ, _+_, _≤_, _<_}
-use mathlib.Core.Path.{_≡_, refl, ap, sym, _∙_, subst}
+use Prim.Native.Nat.{ℕ, _≤_, _<_}
+use mathlib.Core.Path.{_≡_, ap, _∙_, subst}
 use mathlib.Core.Bool.{true, false}
 use mathlib.Core.List.{List}
-use native.Mathlib.Omega.{arith}
-use lib.ListN.{length, getD}
-use Rattle.lines.specs.Levels.{released, byteOf}
+use native.Mathlib.Nat.{zero-add}
 use Rattle.orders.specs.Form.{transactionsOf}
 use Rattle.orders.specs.Results.{startArea, batches}
 use Rattle.controller.specs.Symbols.{isOver}
@@ -14,12 +12,12 @@ use Rattle.controller.specs.Plan.{State, orders}
 use Rattle.controller.specs.Bound.{mostTicks}
 use Rattle.board.specs.Marks.{bodies}
 use Rattle.board.specs.Desk.{busNumber}
-use Rattle.bus.specs.Wires.{Bus, linesOn, after, run}
+use Rattle.bus.specs.Wires.{Bus, after, run}
 use Rattle.bus.specs.Run.{start}
 use Rattle.reading.specs.Plain.{World}
 use Rattle.reading.specs.Read.{plain}
 use Rattle.agreement.proofs.Good.{Bytes}
-use Rattle.agreement.proofs.Right.{RightAll, transactions-right}
+use Rattle.agreement.proofs.Right.{transactions-right}
 use Rattle.agreement.proofs.Board.{good-board, board-asleep}
 use Rattle.agreement.proofs.Runs.{linesFor, run-is}
 use Rattle.agreement.proofs.Agree.{final, Agrees, agree}
@@ -62,11 +60,8 @@ module _ (list : List ℕ) (marks : ℕ) (memory states holds : List ℕ) (asked
     pub ticks-within : ticks ≤ mostTicks (transactionsOf list)
     unfolding plain
     ticks-within =
-        subst (λ (n : ℕ). ticks ≤ n) (none (mostTicks (transactionsOf list)))
+        subst (λ (n : ℕ). ticks ≤ n) (zero-add (mostTicks (transactionsOf list)))
         (list-bound asked (transactionsOf list) 0 _ (transactions-right list bytes) (holds-small list marks memory states holds asked results e))
-      where
-        none : (n : ℕ) → 0 + n ≡ n
-        none n = omega arith
 
     pub run-by-bound : run orders asked (mostTicks (transactionsOf list)) begin ≡ record { last = final read; row = linesFor orders asked ticks begin }
     run-by-bound = run-from (mostTicks (transactionsOf list)) ticks-within

@@ -1,6 +1,6 @@
 -- A watch over the run: no tick of it sees a fault, and at none is the controller at its end. Assumes nothing.
 use Prim.Native.Nat.{ℕ, _+_, _-_, _≤_, _<_}
-use mathlib.Core.Path.{_≡_, refl, ap, sym, subst}
+use mathlib.Core.Path.{_≡_, refl, sym, subst}
 use mathlib.Core.Bool.{Bool, true, false}
 use mathlib.Core.List.{List}
 use native.Mathlib.Omega.{arith}
@@ -14,7 +14,7 @@ use Rattle.bus.specs.Wires.{Bus, after}
 use Rattle.reading.specs.Clock.{Clock, symbol, pass}
 use Rattle.agreement.proofs.Table.{Fine}
 use Rattle.agreement.proofs.Time.{Timed, up}
-use Rattle.agreement.proofs.Symbols.{inZero, after-add, symbol-through, opening-through}
+use Rattle.agreement.proofs.Symbols.{after-add, symbol-through, opening-through}
 use Rattle.agreement.proofs.Standing.{symbol-is, At, Rest, setting, sound, begins-as, waits-as}
 use Rattle.agreement.proofs.Interface.{Watch}
 use Rattle.agreement.proofs.Moments.{Clean, zero-clean, one-clean, two-clean, three-clean, wait-clean, open-zero-clean, open-one-clean, open-two-clean, open-three-clean}
@@ -29,8 +29,10 @@ module _ (Q : Plan) (asked : ℕ) (b : Bus (Q .State)) where
     where
       past : (n t : ℕ) → t ≤ n → t + (n - t) ≡ n
       past n t h = omega arith
+
       soon : (n t m : ℕ) → n < t + m → t ≤ n → n - t < m
       soon n t m l h = omega arith
+
       go : (q : Bool) → ltb n t ≡ q → Clean Q asked (after Q asked n b)
       go true e = c n (ltb-true n t e)
       go false e =

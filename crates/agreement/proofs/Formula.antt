@@ -1,8 +1,9 @@
 -- The ticks of demand 3's formula, with m and L by the list and the results: of the whole run, and of each transaction on the wires. Assumes nothing.
 use Prim.Native.Nat.{ℕ, _+_, _*_, _≤_, _<_}
-use mathlib.Core.Path.{_≡_, refl, ap, sym, _∙_, subst}
+use mathlib.Core.Path.{_≡_, ap, sym, _∙_, subst}
 use mathlib.Core.List.{List, [], _∷_, _++_, map, append-assoc}
 use native.Mathlib.Omega.{arith}
+use native.Mathlib.Nat.{zero-add}
 use lib.ListN.{length, getD, drop}
 use Rattle.lines.specs.Levels.{mostHeld}
 use Rattle.orders.specs.Form.{Transaction, transactionsOf}
@@ -55,12 +56,10 @@ module _ (list : List ℕ) (marks : ℕ) (memory states holds : List ℕ) (asked
   ticks-by-formula =
       subst (λ (o : Outcome). o .answer .ticks ≡ ticksAll (o .results) holds (batches 0 (transactionsOf list))) (sym (plain-is list marks memory states holds asked results bytes filled e))
       (list-ticks asked (transactionsOf list) 0 opening (transactions-right list bytes) (start-ready (transactionsOf list) results) (none (areaOf (transactionsOf list)) _ long)
-      ∙ zero-first (ticksAll _ holds (batches 0 (transactionsOf list))))
+      ∙ zero-add (ticksAll _ holds (batches 0 (transactionsOf list))))
     where
       none : (n m : ℕ) → n ≤ m → 0 + n ≤ m
       none n m l = omega arith
-      zero-first : (n : ℕ) → 0 + n ≡ n
-      zero-first n = omega arith
 
   -- the transactions before one take their ticks, each by the formula; then, on the wires, it begins
   pub transaction-begins : (before later : List Transaction) → transactionsOf list ≡ before ++ later
@@ -74,35 +73,39 @@ module _ (list : List ℕ) (marks : ℕ) (memory states holds : List ℕ) (asked
             ∙ ap (λ (b : Bus State). b .control) (rests asked (batches 0 before) (opening .log) holds (bodies marks memory states) (runnables 0 before right) (holds-small list marks memory states holds asked results e) (board-asleep marks memory states) (good-board marks memory states filled) (batches (areaOf before) later) .rest .is);
       }
     where
-      none : (n m : ℕ) → n ≤ m → 0 + n ≤ m
-      none n m l = omega arith
-      zero-first : (n : ℕ) → 0 + n ≡ n
-      zero-first n = omega arith
       v : World
       v = transactions asked (batches 0 before) opening
+
       all : RightAll (before ++ later)
       all = subst RightAll q (transactions-right list bytes)
+
       right : RightAll before
       right = right-before before later all
+
       parts : batches 0 (before ++ later) ≡ batches 0 before ++ batches (areaOf before) later
-      parts = batches-append before later 0 ∙ ap (λ (n : ℕ). batches 0 before ++ batches n later) (zero-first (areaOf before))
+      parts = batches-append before later 0 ∙ ap (λ (n : ℕ). batches 0 before ++ batches n later) (zero-add (areaOf before))
+
       ends : transactions asked (batches 0 (transactionsOf list)) opening ≡ transactions asked (batches (areaOf before) later) v
       ends = ap (λ (bs : List Batch). transactions asked bs opening) (ap (batches 0) q ∙ parts) ∙ transactions-append asked (batches 0 before) (batches (areaOf before) later) opening
+
       area : answer .results ≡ transactions asked (batches (areaOf before) later) v .log .area
       area = ap (λ (o : Outcome). o .results) (plain-is list marks memory states holds asked results bytes filled e) ∙ ap (λ (w : World). w .log .area) ends
+
       some : (x y : ℕ) → x + y ≤ length (opening .log .area) → 0 + x ≤ length (opening .log .area)
       some x y l = omega arith
+
       fits : 0 + areaOf before ≤ length (opening .log .area)
       fits = some (areaOf before) (areaOf later) (subst (λ (n : ℕ). n ≤ length (opening .log .area)) (ap areaOf q ∙ area-append before later) long)
+
       time : v .clock .now ≡ ticksAll (answer .results) holds (batches 0 before)
       time =
           list-ticks asked before 0 opening right (ready-before before later 0 (opening .log .area) (subst (λ (ts : List Transaction). Ready 0 ts (opening .log .area)) q (start-ready (transactionsOf list) results))) fits
-          ∙ zero-first (ticksAll (v .log .area) holds (batches 0 before))
+          ∙ zero-add (ticksAll (v .log .area) holds (batches 0 before))
           ∙ sym (ticks-alike before 0 (v .log .area) (answer .results) holds
-          (λ i l r. ap (λ (a : List ℕ). getD a i 0) area ∙ list-frame asked later (areaOf before) v (right-after before later all) .below i (subst (λ (n : ℕ). i < n) (zero-first (areaOf before)) r)))
+          (λ i l r. ap (λ (a : List ℕ). getD a i 0) area ∙ list-frame asked later (areaOf before) v (right-after before later all) .below i (subst (λ (n : ℕ). i < n) (zero-add (areaOf before)) r)))
 
   -- a transaction that sends m messages and L bytes takes its asked wait, plus 4(m + 9L + 1) ticks, plus its holds: never over 20(m + 9L) + 4 after the wait
-  pub transaction-takes : (before later : List Transaction) (t : Transaction) → transactionsOf list ≡ before ++ (t ∷ later) 
+  pub transaction-takes : (before later : List Transaction) (t : Transaction) → transactionsOf list ≡ before ++ (t ∷ later)
       → Takes asked (start list marks memory states holds results) (answer .results) holds before later t
   transaction-takes before later t q =
       record {

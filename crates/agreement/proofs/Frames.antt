@@ -1,12 +1,14 @@
 -- What a message changes in the result area: its own slot and nothing else, and what then stands there. Assumes nothing.
 use Prim.Native.Nat.{ℕ, zero, suc, _+_, _≤_, _<_}
-use mathlib.Core.Path.{_≡_, refl, ap, sym, _∙_, subst}
+use mathlib.Core.Path.{_≡_, refl, sym, _∙_, subst}
 use mathlib.Core.Bool.{Bool, true, false, cond}
 use mathlib.Core.List.{List, [], _∷_}
 use native.Mathlib.Omega.{arith}
+use native.Mathlib.Numerals.{add-one}
+use native.Mathlib.Nat.{zero-add, add-zero}
 use lib.ListN.{length, getD, set, length-set}
 use lib.Seq.{getD-set-same, getD-set-other}
-use Rattle.orders.specs.Kinds.{isWrite, lengthRight, askedOf, quotaOf, follow, remain}
+use Rattle.orders.specs.Kinds.{isWrite, askedOf, quotaOf, follow, remain}
 use Rattle.orders.specs.Form.{Message}
 use Rattle.orders.specs.Asking.{Order, put, get, orderOf}
 use Rattle.orders.specs.Results.{Slotted, slotsOf}
@@ -76,9 +78,6 @@ slot-data s f n j y a h =
 slot-by : {s f n m : ℕ} {a : List ℕ} → n ≡ m → Slot s f n a → Slot s f m a
 slot-by e h = record { flag = h .flag; count = h .count ∙ e; room = h .room }
 
-one-up : (n : ℕ) → n + 1 ≡ suc n
-one-up n = omega arith
-
 -- the bytes of a write
 writes-frame : (f : Cell → Bool) (s n : ℕ) (ys : List ℕ) (w : World) → Frame s (s + 2) (w .log .area) (writesAll f s n ys w .log .area)
 unfolding writesAll note
@@ -87,13 +86,10 @@ writes-frame f s n (y ∷ ys) w = frame-then (frame-set s (s + 2) (w .log .area)
 
 writes-slot : (f : Cell → Bool) (s g n : ℕ) (ys : List ℕ) (w : World) → Slot s g n (w .log .area) → Slot s g (n + length ys) (writesAll f s n ys w .log .area)
 unfolding writesAll note
-writes-slot f s g n [] w h = slot-by (none n) h
-  where
-    none : (n : ℕ) → n ≡ n + 0
-    none n = omega arith
+writes-slot f s g n [] w h = slot-by (sym (add-zero n)) h
 writes-slot f s g n (y ∷ ys) w h =
     slot-by (more n (length ys))
-    (writes-slot f s g (suc n) ys (byteGoes f (takes y) (written n y true) s w) (slot-by (one-up n) (slot-count s g n (n + 1) (w .log .area) h)))
+    (writes-slot f s g (suc n) ys (byteGoes f (takes y) (written n y true) s w) (slot-by (add-one n) (slot-count s g n (n + 1) (w .log .area) h)))
   where
     more : (n k : ℕ) → suc n + k ≡ n + suc k
     more n k = omega arith
@@ -105,7 +101,7 @@ read-frame s n r y a l =
     (frame-set s (s + 2 + r) (set a (s + 2 + n) y) (s + 1) (n + 1) (omega arith) (omega arith))
 
 read-slot : (s g n y : ℕ) (a : List ℕ) → Slot s g n a → Slot s g (suc n) (set (set a (s + 2 + n) y) (s + 1) (n + 1))
-read-slot s g n y a h = slot-by (one-up n) (slot-count s g n (n + 1) (set a (s + 2 + n) y) (slot-data s g n n y a h))
+read-slot s g n y a h = slot-by (add-one n) (slot-count s g n (n + 1) (set a (s + 2 + n) y) (slot-data s g n n y a h))
 
 reads-frame : (f : Cell → Bool) (s n : ℕ) (q : Quota) (m : ℕ) (w : World) (r : ℕ) → n + m ≤ r
     → Frame s (s + 2 + r) (w .log .area) (readsAll f s n q m w .log .area)
@@ -116,10 +112,7 @@ reads-frame f s n q (suc m) w r l =
 
 reads-slot : (f : Cell → Bool) (s g n : ℕ) (q : Quota) (m : ℕ) (w : World) → Slot s g n (w .log .area) → Slot s g (n + m) (readsAll f s n q m w .log .area)
 unfolding readsAll note readMark
-reads-slot f s g n q zero w h = slot-by (none n) h
-  where
-    none : (n : ℕ) → n ≡ n + 0
-    none n = omega arith
+reads-slot f s g n q zero w h = slot-by (sym (add-zero n)) h
 reads-slot f s g n q (suc m) w h =
     slot-by (more n m) (reads-slot f s g (suc n) (remain q m) m (readsOne f s n (remain q m) w) (read-slot s g n (valueOf f (w .cells)) (w .log .area) h))
   where
@@ -140,6 +133,7 @@ module _ (m : Message) (s : ℕ) (w : World) where
     where
       fits : (a b r : ℕ) → r ≤ b → s + 2 + r ≤ s + (2 + b)
       fits a b r h = omega arith
+
       carry : (q : Bool) → isWrite (m .kind) ≡ q
           → Frame s (s + slotsOf m) (w .log .area) (carried f s (cond q (put (m .sent)) (get (quotaOf (m .kind) (m .asked)))) (addressed here true w) .log .area)
       carry true e =
@@ -153,6 +147,7 @@ module _ (m : Message) (s : ℕ) (w : World) where
           (frame-wider s (s + slotsOf m) (omega arith) (omega arith)
           (frame-then (read-frame s 0 r v (addressed here true w .log .area) (omega arith))
           (reads-frame f s 1 (quotaOf (m .kind) (m .asked)) (follow (quotaOf (m .kind) (m .asked)) v) (readsOne f s 0 (quotaOf (m .kind) (m .asked)) (addressed here true w)) r (omega arith))))
+
       go : (q : Bool) → Frame s (s + slotsOf m) (w .log .area) (messageIf here q w .log .area)
       go true = carry (isWrite (m .kind)) refl
       go false = frame-none s (s + slotsOf m) _
@@ -163,10 +158,7 @@ module _ (m : Message) (s : ℕ) (w : World) where
   message-slot h = go (answered here w)
     where
       carry : (o : Order) → Slot s 1 (dataSent f o w) (carried f s o (addressed here true w) .log .area)
-      carry (put ys) = slot-by (none (length ys)) (writes-slot f s 1 0 ys (addressed here true w) (slot-flag s 0 0 (w .log .area) h))
-        where
-          none : (n : ℕ) → 0 + n ≡ n
-          none n = omega arith
+      carry (put ys) = slot-by (zero-add (length ys)) (writes-slot f s 1 0 ys (addressed here true w) (slot-flag s 0 0 (w .log .area) h))
       carry (get q) =
           slot-by (one (follow q (valueOf f (w .cells))))
           (reads-slot f s 1 1 q (follow q (valueOf f (w .cells))) (readsOne f s 0 q (addressed here true w))
@@ -174,6 +166,7 @@ module _ (m : Message) (s : ℕ) (w : World) where
         where
           one : (n : ℕ) → 1 + n ≡ suc n
           one n = omega arith
+
       go : (q : Bool) → Slot s (cond q 1 0) (cond q (dataSent f (orderOf m) w) 0) (messageIf here q w .log .area)
       go true = carry (orderOf m)
       go false = h

@@ -1,14 +1,14 @@
 -- What holds of the chips throughout a run: distinct addresses, and bytes in their memories. Every move of the plain reading keeps it. Size and page are
 -- not looked at. Assumes nothing.
 use Prim.Native.Nat.{ℕ, zero, suc, _+_, _<_}
-use mathlib.Core.Path.{_≡_, refl, ap, ap₂, sym, _∙_}
-use mathlib.Core.Bool.{Bool, true, false, _&&_, _||_, not, cond}
+use mathlib.Core.Path.{_≡_, refl}
+use mathlib.Core.Bool.{Bool, true, false, _||_, not, cond, and-eq-true-iff}
 use mathlib.Core.List.{List, [], _∷_, map}
 use native.Mathlib.Omega.{arith}
 use borrow.Author.Tests.{eqb-true, ltb-true}
-use lib.Dec.{eqb, leb, ltb}
+use lib.Dec.{eqb, ltb}
 use lib.ListN.{getD, set}
-use Rattle.orders.specs.Kinds.{isCritical, follow, remain}
+use Rattle.orders.specs.Kinds.{isCritical, remain}
 use Rattle.orders.specs.Asking.{Order, put, get, orderOf}
 use Rattle.orders.specs.Results.{Slotted}
 use Rattle.orders.specs.declared.Quota.{Quota}
@@ -52,14 +52,10 @@ absent-any : (a t : ℕ) (cs : List Cell) → Absent a cs → anyOf (listens a t
 absent-any a t [] h = refl
 absent-any a t (c ∷ cs) h = rw (h .0) (absent-any a t cs (h .1))
 
-and-left : (p q : Bool) → p && q ≡ true → p ≡ true
-and-left true q e = refl
-and-left false q e = e
-
 pub lone : (a t : ℕ) (cs : List Cell) → Distinct cs → Lone (listens a t) cs
 lone a t [] h = tt
 lone a t (c ∷ cs) h =
-    (λ e. absent-any a t cs (rw (eqb-true a (c .kept .store .name) (and-left (eqb a (c .kept .store .name)) _ e)) (h .0)), lone a t cs (h .1))
+    (λ e. absent-any a t cs (rw (eqb-true a (c .kept .store .name) (and-eq-true-iff (eqb a (c .kept .store .name)) _ .0 e .0)) (h .0)), lone a t cs (h .1))
 
 -- what is read is a byte
 pub value-small : (f : Cell → Bool) (cs : List Cell) → Filled cs → valueOf f cs < 256
@@ -100,6 +96,7 @@ module _ {g : Kept → Kept} (t : Tame g) where
       name1 : (c : Cell) (q : Bool) → cond q (does g c) c .kept .store .name ≡ c .kept .store .name
       name1 c true = t .name (c .kept)
       name1 c false = refl
+
       bytes1 : (c : Cell) (q : Bool) → Bytes (c .kept .memory) → Bytes (cond q (does g c) c .kept .memory)
       bytes1 c true b = t .bytes (c .kept) b
       bytes1 c false b = b
@@ -171,6 +168,7 @@ good-message m w g = go (answered m w)
     carry : (o : Order) → Good (carried (listening m w) (m .slot) o (addressed m true w) .cells)
     carry (put ys) = good-writes _ _ 0 ys _ g
     carry (get q) = good-reads _ _ 1 q _ _ (good-only tame-steps (listening m w) (w .cells) g)
+
     go : (q : Bool) → Good (messageIf m q w .cells)
     go true = carry (orderOf (m .message))
     go false = g

@@ -1,8 +1,8 @@
 -- The wires as the layers above see them: a relation between the time by the clock, the controller's plan and the chips, and five lemmas that move it by a
 -- symbol. Whoever wants to know more of the ticks on the way brings a Watch. Assumes nothing.
 use Prim.Native.Nat.{ℕ, _+_}
-use mathlib.Core.Path.{_≡_, refl, ap, sym, _∙_, subst}
-use mathlib.Core.Bool.{Bool, true, false, _&&_}
+use mathlib.Core.Path.{_≡_, refl, sym, subst}
+use mathlib.Core.Bool.{Bool, true, false, _&&_, and-true}
 use mathlib.Core.List.{List, map}
 use Rattle.lines.specs.Levels.{hi, lo}
 use Rattle.lines.specs.declared.Event.the-variants.{Started, Bit}
@@ -11,7 +11,7 @@ use Rattle.controller.specs.Ticks.{Plan, first, clocked}
 use Rattle.controller.specs.declared.Begin.the-variants.{Repeated}
 use Rattle.controller.specs.declared.Symbol.{Symbol}
 use Rattle.controller.specs.declared.Symbol.the-variants.{Start, Stop, Sent, Received}
-use Rattle.bus.specs.Holding.{firstHold, laterHolds}
+use Rattle.bus.specs.Holding.{firstHold}
 use Rattle.bus.specs.Wires.{Bus, after}
 use Rattle.reading.specs.Clock.{Clock, symbol, pass}
 use Rattle.agreement.proofs.Table.{late, Fine}
@@ -36,10 +36,6 @@ pub record Watch (Q : Plan) (asked : ℕ) : Type 1 where
       → Q .ask d ≡ clocked Stop → up zs ≡ true
       → After (symbol κ) (Q .next d hi) (map (stopsAt asked (symbol κ .now)) zs)
 
-and-true : (c : Bool) → c && true ≡ c
-and-true true = refl
-and-true false = refl
-
 module _ (Q : Plan) (asked : ℕ) (O : Watch Q asked) where
   -- at the start of a symbol: the time, what the plan does next, and the chips once all bits are delivered
   pub record On (κ : Clock) (d : Q .State) (zs : List Timed) : Type 0 where
@@ -54,9 +50,6 @@ module _ (Q : Plan) (asked : ℕ) (O : Watch Q asked) where
     pub tale : R κ d zs
 
   module _ {κ : Clock} {d : Q .State} {zs : List Timed} (o : On κ d zs) where
-    abbrev ticked : Clock
-    ticked = record { now = κ .now + (4 + firstHold (κ .holds)); holds = laterHolds (κ .holds) }
-
     -- any clocked symbol but STOP
     crosses : (s : Symbol) (x : Bool) → isStop s ≡ false → Q .ask d ≡ clocked s → up zs ≡ x → Fine s x
         → On (symbol κ) (Q .next d (late s && x)) (map (hearsAt (symbol κ .now) (hearing s (late s && x))) zs)

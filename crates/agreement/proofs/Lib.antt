@@ -30,3 +30,4 @@ pub mod Overwritten
 pub mod Demand3
 pub mod Splits
 pub mod Formula
+pub mod Answers

@@ -1,18 +1,18 @@
 -- From messages to transactions, and from these to a list: the run over the wires is the plain reading. Assumes nothing.
 use Prim.Native.Nat.{ℕ, _+_}
-use mathlib.Core.Path.{_≡_, refl, ap, sym, _∙_, subst}
+use mathlib.Core.Path.{_≡_, refl, ap, _∙_, subst}
 use mathlib.Core.Bool.{Bool, true, false, _||_, not, cond}
 use mathlib.Core.List.{List, [], _∷_, _++_, map}
-use Rattle.lines.specs.declared.Event.the-variants.{Started, Stopped}
+use Rattle.lines.specs.declared.Event.the-variants.{Started}
 use Rattle.orders.specs.Kinds.{isCritical}
 use Rattle.orders.specs.Results.{Slotted, Batch}
 use Rattle.orders.specs.Marks.{Log}
-use Rattle.controller.specs.Plan.{Context, State, addressing, closing, reopening, goOn, refused, opens, orders, does as doing}
+use Rattle.controller.specs.Plan.{Context, State, addressing, closing, reopening, opens, orders, does as doing}
 use Rattle.eeprom.specs.Keeping.{starts}
 use Rattle.eeprom.specs.Stages.{Core, hears, sdaOf, due}
 use Rattle.eeprom.specs.declared.Stage.the-variants.{Deaf, Naming}
 use Rattle.reading.specs.Clock.{Clock, symbol, pass}
-use Rattle.reading.specs.Plain.{Cell, World, does, answered, message, started, messages, stores, transactions}
+use Rattle.reading.specs.Plain.{Cell, World, does, answered, message, messages, stores, transactions}
 use Rattle.agreement.specs.Between.{between}
 use Rattle.agreement.specs.Course.{opened, transaction}
 use Rattle.agreement.proofs.Maps.{map-square}
@@ -107,8 +107,8 @@ module _ (asked : ℕ) (O : Watch orders asked) where
       let v : World = opened t (record { clock = κ; cells = cs; log = l }) in
       let w : World = messages (t .others) (t .first) v in
       let r : Last (w .clock) ts (t .top) (w .log) (w .cells) =
-              messages-go (t .others) (t .first) ts (t .top) l (map (does starts) cs) (k .first) (k .others) (good-all tame-starts cs g)
-              (subst (Has asked O (pass (t .wait + 4) κ) _) (map-square _ _ _ _ (λ c. refl) cs) (begins orders asked O o (t .wait) refl (up-wake Deaf refl cs))) in
+      messages-go (t .others) (t .first) ts (t .top) l (map (does starts) cs) (k .first) (k .others) (good-all tame-starts cs g)
+      (subst (Has asked O (pass (t .wait + 4) κ) _) (map-square _ _ _ _ (λ c. refl) cs) (begins orders asked O o (t .wait) refl (up-wake Deaf refl cs))) in
       subst (Idle orders asked O (O .After) (symbol (w .clock)) _) (stop-all asked (symbol (w .clock) .now) (r .done .zs) (w .cells) (r .done .even) (r .done .is))
       (ends orders asked O (r .done .on) refl (r .done .up))
 

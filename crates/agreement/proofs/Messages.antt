@@ -1,19 +1,19 @@
 -- From bytes to a message: on the wires it is the plain message, and at its end every chip lets go of SDA and stands between two bytes. Assumes nothing.
 use Prim.Native.Nat.{ℕ, zero, suc, _+_, _*_, _/_, _%_, _<_}
-use mathlib.Core.Path.{_≡_, refl, ap, ap₂, sym, _∙_, subst}
+use mathlib.Core.Path.{_≡_, refl, ap, ap₂, _∙_, subst}
 use mathlib.Core.Bool.{Bool, true, false, not, cond}
 use mathlib.Core.List.{List, [], _∷_, map}
 use native.Mathlib.Omega.{arith}
 use lib.Dec.{eqb}
 use Rattle.orders.specs.Kinds.{isWrite, follow, remain, quotaOf}
 use Rattle.orders.specs.Form.{Message}
-use Rattle.orders.specs.Asking.{Order, put, get, orderOf, addressByte}
+use Rattle.orders.specs.Asking.{put, get, addressByte}
 use Rattle.orders.specs.Marks.{heard, written, readMark}
 use Rattle.orders.specs.declared.Quota.{Quota}
 use Rattle.controller.specs.Plan.{Context, State, addressing, addressed, writing, wrote, reading, answering, logged, marked, goOn, refused, writes, reads, carries, step, orders, does as doing}
 use Rattle.eeprom.specs.Keeping.{takes, steps}
 use Rattle.eeprom.specs.Stages.{sdaOf}
-use Rattle.eeprom.specs.declared.Stage.the-variants.{Deaf, Naming, Named, Taking, Taken, Sending, Asking}
+use Rattle.eeprom.specs.declared.Stage.the-variants.{Deaf, Naming, Taking, Asking}
 use Rattle.reading.specs.Clock.{Clock, symbol, symbols}
 use Rattle.reading.specs.Plain.{Cell, World, listens, anyOf, does, only, valueOf, writesAll, readsAll, carried, answered, messageIf, message}
 use Rattle.agreement.specs.Between.{between}
@@ -199,14 +199,18 @@ module _ (asked : ℕ) (O : Watch orders asked) where
     where
       f : Cell → Bool
       f = listens (x .now .message .address) (symbols 8 κ .now)
+
       r : Bool
       r = not (isWrite (x .now .message .kind))
+
       same : (r : Bool) (c : Cell) → cellIn (begun r c) ≡ c
       same true c = refl
       same false c = refl
+
       fine : (r : Bool) (c : Cell) → between (begun r c .core .stage) ≡ true
       fine true c = refl
       fine false c = refl
+
       go : (q : Bool) → anyOf f cs ≡ q → Has asked O (symbols 9 κ) (step addressed (not q) x) (map (tuned f (begun r)) cs)
           → let w = messageIf (x .now) q (record { clock = κ; cells = cs; log = x .log }) in Done (w .clock) (finishes q (logged (w .log) x)) (w .cells)
       go true e p =

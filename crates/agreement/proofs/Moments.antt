@@ -1,16 +1,15 @@
 -- The lines at every tick of a clocked symbol, of a wait and of the first START, and that no fault is seen there. Assumes nothing.
 use Prim.Native.Nat.{ℕ, zero, suc, _+_, _-_, _≤_, _<_}
-use mathlib.Core.Path.{_≡_, refl, ap, ap₂, sym, _∙_, subst}
+use mathlib.Core.Path.{_≡_, refl, ap, _∙_}
 use mathlib.Core.Bool.{Bool, true, false, _&&_}
 use mathlib.Core.List.{List}
 use native.Mathlib.Omega.{arith}
 use borrow.Author.Tests.{eq-eqb, ne-eqb, ltb-true, ltb-false}
 use lib.Dec.{eqb, ltb}
 use Rattle.lines.specs.Levels.{hi, lo, _∥_, released, mostHeld}
-use Rattle.lines.specs.declared.Lines.{Lines}
 use Rattle.controller.specs.Symbols.{isOver}
 use Rattle.controller.specs.Faults.{faultOf}
-use Rattle.controller.specs.Ticks.{Plan, first, enter}
+use Rattle.controller.specs.Ticks.{Plan}
 use Rattle.controller.specs.declared.Fault.the-variants.{Clear}
 use Rattle.controller.specs.declared.Phase.the-variants.{Zero, One, Two, Three}
 use Rattle.bus.specs.Holding.{firstHold}
@@ -54,12 +53,16 @@ module _ (Q : Plan) (asked : ℕ) (c : Setting (Q .State)) (i : Sound Q c) where
     where
       h : ℕ
       h = firstHold (c .holds)
+
       some : (h j : ℕ) → j < h → h - j ≡ 0 → ⊥
       some h j l e = omega arith
+
       none : (h j : ℕ) → j ≤ h → h ≤ j → h - j ≡ 0
       none h j l m = omega arith
+
       few : (h j : ℕ) → j < h → h ≤ mostHeld → j < mostHeld
       few h j l m = omega arith
+
       go : (q : Bool) → ltb j h ≡ q → faultOf (Two (c .symbol) j) (c .was) (eqb (h - j) 0 ∥ middle Q c) ≡ Clear
       go true e =
           ap (λ (y : Bool). faultOf (Two (c .symbol) j) (c .was) (y ∥ middle Q c)) (ne-eqb (h - j) 0 (some h j (ltb-true j h e)))

@@ -37,8 +37,10 @@ module _ (row lent : List ℕ) where
     where
       on : (n k : ℕ) → n ≤ k → k ≡ n + (k - n)
       on n k l = omega arith
+
       out : (m n k : ℕ) → m < n → n ≤ k → m ≤ k
       out m n k a b = omega arith
+
       go : (q : Bool) → leb (length row) (length lent) ≡ q → getD (take (length lent) row ++ drop (length row) lent) k 0 ≡ getD lent k 0
       go true e =
           ap₂ (λ (r : List ℕ) (j : ℕ). getD (r ++ drop (length row) lent) j 0) (take-all (length lent) row (leb-true (length row) (length lent) e)) (on (length row) k l)

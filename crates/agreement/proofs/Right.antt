@@ -1,7 +1,7 @@
 -- What the transactions of a list have, whatever the bytes are that it was read from: right addresses, kinds and lengths, as many data bytes as the length
 -- says, and only bytes among them. Assumes nothing.
-use Prim.Native.Nat.{ℕ, zero, suc, _+_, _-_, min, _≤_, _<_}
-use mathlib.Core.Path.{_≡_, refl, ap, sym, _∙_}
+use Prim.Native.Nat.{ℕ, zero, suc, _+_, _-_, min, _≤_}
+use mathlib.Core.Path.{_≡_, refl, ap, _∙_}
 use mathlib.Core.Bool.{Bool, true, false, cond}
 use mathlib.Core.List.{List, [], _∷_}
 use native.Mathlib.Omega.{arith}
@@ -9,11 +9,10 @@ use borrow.Author.Tests.{leb-true}
 use lib.Dec.{ltb, leb}
 use lib.ListN.{length, getD, take, drop, length-take, length-drop}
 use Rattle.orders.specs.Kinds.{addressRight, kindRight, lengthRight, countRight, dataOf}
-use Rattle.orders.specs.Form.{Message, Transaction, Read, whole, broken, breaks, cut, byteAt, messageAt, Parsed, right, wrong, after, andMessage, andTransaction, waitAt, beginAt, parse, parsed, transactionsIn, transactionsOf}
+use Rattle.orders.specs.Form.{Message, Transaction, Read, whole, broken, breaks, cut, messageAt, Parsed, right, wrong, after, andMessage, andTransaction, waitAt, beginAt, parse, parsed, transactionsIn, transactionsOf}
 use Rattle.orders.specs.Bytes.{RightMessage}
 use Rattle.orders.specs.declared.Rule.{Rule}
 use Rattle.orders.specs.declared.Rule.the-variants.{Count, Address, Kind, Length}
-use Rattle.orders.specs.declared.Break.{Break}
 use Rattle.agreement.proofs.Good.{Bytes}
 
 pub record Right (m : Message) : Type 0 where
@@ -66,8 +65,10 @@ module _ (s : List ℕ) (small : Bytes s) where
     where
       size : ℕ
       size = dataOf (getD s (p + 1) 0) (getD s (p + 2) 0)
+
       long : (p n l : ℕ) → p + 3 + n ≤ l → min n (l - (p + 3)) ≡ n
       long p n l h = omega arith
+
       rest : addressRight (getD s p 0) ≡ true → kindRight (getD s (p + 1) 0) ≡ true → lengthRight (getD s (p + 1) 0) (getD s (p + 2) 0) ≡ true
           → (q : Bool) → leb (p + 3 + size) (length s) ≡ q
           → ReadRight (cond q (whole (record { address = getD s p 0; kind = getD s (p + 1) 0; asked = getD s (p + 2) 0; sent = take size (drop (p + 3) s) }) (p + 3 + size)) (broken (cut s)))

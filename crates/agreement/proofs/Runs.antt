@@ -1,15 +1,15 @@
 -- The run of an entry: where the controller is at its end after n ticks and at no tick before, any larger number of ticks gives the same run, and its row
 -- holds the lines of those ticks. Assumes nothing.
 use Prim.Native.Nat.{ℕ, zero, suc, _≤_, _<_}
-use mathlib.Core.Path.{_≡_, refl, ap, sym, _∙_}
-use mathlib.Core.Bool.{Bool, true, false}
+use mathlib.Core.Path.{_≡_, refl, ap}
+use mathlib.Core.Bool.{true, false}
 use mathlib.Core.List.{List, [], _∷_}
 use native.Mathlib.Omega.{arith}
 use lib.ListN.{length, getD}
 use Rattle.lines.specs.Levels.{byteOf}
 use Rattle.controller.specs.Symbols.{isOver}
 use Rattle.controller.specs.Ticks.{Plan}
-use Rattle.bus.specs.Wires.{Bus, linesOn, tick, after, Ran, oneMore, run}
+use Rattle.bus.specs.Wires.{Bus, linesOn, tick, after, oneMore, run}
 
 module _ (Q : Plan) (asked : ℕ) where
   -- the lines of the first n ticks

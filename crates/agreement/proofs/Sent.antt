@@ -1,6 +1,6 @@
 -- What a transaction sent stands in its results: m and L by the list and the result area are m and L along the plain reading's course; and its outcome is
 -- 0. Assumes nothing.
-use Prim.Native.Nat.{ℕ, zero, suc, _+_, _≤_, _<_}
+use Prim.Native.Nat.{ℕ, suc, _+_, _≤_, _<_}
 use mathlib.Core.Path.{_≡_, refl, ap, ap₂, sym, _∙_, subst}
 use mathlib.Core.Bool.{Bool, true, false, _||_, not, cond, false≢true}
 use mathlib.Core.List.{List, [], _∷_}
@@ -8,17 +8,17 @@ use native.Mathlib.Omega.{arith}
 use lib.Dec.{eqb}
 use lib.ListN.{length, getD, set}
 use lib.Seq.{getD-set-same, getD-set-other}
-use Rattle.orders.specs.Kinds.{isCritical, askedOf}
+use Rattle.orders.specs.Kinds.{isCritical}
 use Rattle.orders.specs.Form.{Message, Transaction}
 use Rattle.orders.specs.Asking.{orderOf}
-use Rattle.orders.specs.Results.{Slotted, Batch, slotsOf, slotsOfAll, slotted}
+use Rattle.orders.specs.Results.{Slotted, slotsOf, slotsOfAll, slotted}
 use Rattle.orders.specs.Marks.{note}
 use Rattle.reading.specs.Clock.{symbol}
 use Rattle.reading.specs.Plain.{World, listening, answered, message, started, messages}
 use Rattle.agreement.specs.Course.{here, batchAt, sizeOf, opened, transaction}
 use Rattle.agreement.specs.Sums.{Sum, flagged, bytesBy, alone, with, sumOf, sumIn}
 use Rattle.agreement.proofs.Right.{Right, Rights}
-use Rattle.agreement.proofs.Tally.{dataSent, bytesSent, tally}
+use Rattle.agreement.proofs.Tally.{dataSent, tally}
 use Rattle.agreement.proofs.Frames.{Frame, frame-then, frame-wider, frame-set, Slot, message-frame, message-slot}
 
 -- the places from lo to before hi hold 0
@@ -39,6 +39,7 @@ sum-alike (n ∷ ms) m s a b h =
   where
     c : Bool
     c = not (isCritical (m .kind))
+
     join : getD b s 0 ≡ getD a s 0 → getD b (s + 1) 0 ≡ getD a (s + 1) 0 → {x y : Sum} → x ≡ y
         → cond (eqb (getD b s 0) 1 || c) (with (1 + getD b (s + 1) 0) x) (alone (1 + getD b (s + 1) 0))
         ≡ cond (eqb (getD a s 0) 1 || c) (with (1 + getD a (s + 1) 0) y) (alone (1 + getD a (s + 1) 0))
@@ -73,8 +74,10 @@ messages-frame (n ∷ ms) m s w k ks =
   where
     hi : ℕ
     hi = s + slotsOfAll (m ∷ n ∷ ms)
+
     first : Frame s hi (w .log .area) (message (here s m) w .log .area)
     first = frame-wider s hi (omega arith) (omega arith) (message-frame m s w k)
+
     go : (q : Bool) (r : World) → Frame (s + slotsOf m) (s + slotsOf m + slotsOfAll (n ∷ ms)) (message (here s m) w .log .area) (r .log .area)
         → Frame s hi (w .log .area) (cond q r (message (here s m) w) .log .area)
     go true r f = frame-then first (frame-wider s hi (omega arith) (omega arith) f)
@@ -110,20 +113,28 @@ messages-sum (n ∷ ms) m s w k ks z l =
   where
     v : World
     v = started (symbol (message (here s m) w .clock)) (message (here s m) w)
+
     r : World
     r = messages (slotted (s + slotsOf m + slotsOf n) ms) (here (s + slotsOf m) n) v
+
     f : Frame s (s + slotsOf m) (w .log .area) (message (here s m) w .log .area)
     f = message-frame m s w k
+
     q : Bool
     q = answered (here s m) w
+
     c : ℕ
     c = cond q (dataSent (listening (here s m) w) (orderOf m) w) 0
+
     h : Slot s (cond q 1 0) c (message (here s m) w .log .area)
     h = message-slot m s w (blank-slot m s (s + slotsOfAll (m ∷ n ∷ ms)) (w .log .area) (omega arith) l z)
+
     others : List Slotted
     others = slotted (s + slotsOf m + slotsOf n) ms
+
     next : Slotted
     next = here (s + slotsOf m) n
+
     go : (b : Bool) → q || not (isCritical (m .kind)) ≡ b
         → Frame (s + slotsOf m) (s + slotsOf m + slotsOfAll (n ∷ ms)) (message (here s m) w .log .area) (r .log .area)
         → sumOf (r .log .area) others next ≡ tally others next v

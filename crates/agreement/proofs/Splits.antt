@@ -1,9 +1,10 @@
 -- A list of transactions in two parts: what each law of the whole says of the first. Assumes nothing.
-use Prim.Native.Nat.{ℕ, zero, suc, _+_, _≤_, _<_}
-use mathlib.Core.Path.{_≡_, refl, ap, ap₂, sym, _∙_, subst}
+use Prim.Native.Nat.{ℕ, _+_}
+use mathlib.Core.Path.{_≡_, refl, ap, sym, _∙_}
 use mathlib.Core.List.{List, [], _∷_, _++_}
 use native.Mathlib.Omega.{arith}
-use lib.ListN.{length, getD, drop}
+use native.Mathlib.Nat.{zero-add, add-zero}
+use lib.ListN.{drop}
 use lib.Seq.{drop-drop}
 use Rattle.orders.specs.Form.{Transaction}
 use Rattle.orders.specs.Results.{Batch, areaOf, batches}
@@ -36,10 +37,7 @@ area-append (x ∷ xs) ys = ap (λ (n : ℕ). sizeOf x + n) (area-append xs ys) 
 
 pub batches-append : (xs ys : List Transaction) (top : ℕ) → batches top (xs ++ ys) ≡ batches top xs ++ batches (top + areaOf xs) ys
 unfolding batches areaOf
-batches-append [] ys top = ap (λ (n : ℕ). batches n ys) (none top)
-  where
-    none : (n : ℕ) → n ≡ n + 0
-    none n = omega arith
+batches-append [] ys top = ap (λ (n : ℕ). batches n ys) (sym (add-zero top))
 batches-append (x ∷ xs) ys top =
     ap (λ (bs : List Batch). batchAt top x ∷ bs) (batches-append xs ys (top + sizeOf x) ∙ ap (λ (n : ℕ). batches (top + sizeOf x) xs ++ batches n ys) (sum top (sizeOf x) (areaOf xs)))
   where
@@ -49,17 +47,11 @@ batches-append (x ∷ xs) ys top =
 -- one more transaction
 pub area-one : (t : Transaction) → areaOf (t ∷ []) ≡ sizeOf t
 unfolding areaOf
-area-one t = none (sizeOf t)
-  where
-    none : (n : ℕ) → n + 0 ≡ n
-    none n = omega arith
+area-one t = add-zero (sizeOf t)
 
 pub last-batch : (xs : List Transaction) (t : Transaction) → batches 0 (xs ++ (t ∷ [])) ≡ batches 0 xs ++ (batchAt (areaOf xs) t ∷ [])
 unfolding batches
-last-batch xs t = batches-append xs (t ∷ []) 0 ∙ ap (λ (n : ℕ). batches 0 xs ++ (batchAt n t ∷ [])) (none (areaOf xs))
-  where
-    none : (n : ℕ) → 0 + n ≡ n
-    none n = omega arith
+last-batch xs t = batches-append xs (t ∷ []) 0 ∙ ap (λ (n : ℕ). batches 0 xs ++ (batchAt n t ∷ [])) (zero-add (areaOf xs))
 
 pub transactions-append : (asked : ℕ) (xs ys : List Batch) (w : World) → transactions asked (xs ++ ys) w ≡ transactions asked ys (transactions asked xs w)
 unfolding transactions
@@ -91,5 +83,6 @@ ticks-one-more a hs (b ∷ bs) t =
   where
     c : ℕ
     c = clockedIn (sumIn a b)
+
     sum : (x y z : ℕ) → x + (y + z) ≡ x + y + z
     sum x y z = omega arith

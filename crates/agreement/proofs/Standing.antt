@@ -1,8 +1,8 @@
 -- Where the bus stands at the start of a symbol, at a tick by the clock: what a clocked symbol, and a wait with the first START, make of it. The bit that a
 -- symbol leaves is delivered in the next symbol's phase 0; the chips are told as they are once it is delivered. Assumes nothing.
 use Prim.Native.Nat.{ℕ, suc, _+_, _≤_}
-use mathlib.Core.Path.{_≡_, refl, ap, sym, _∙_, subst}
-use mathlib.Core.Bool.{Bool, true, false, _&&_, false≢true}
+use mathlib.Core.Path.{_≡_, refl, ap, sym, _∙_}
+use mathlib.Core.Bool.{Bool, true, false, _&&_, false≢true, and-eq-true-iff}
 use mathlib.Core.List.{List, [], _∷_, map}
 use native.Mathlib.Omega.{arith}
 use native.Mathlib.Nat.{add-zero}
@@ -23,7 +23,7 @@ use Rattle.controller.specs.declared.Symbol.the-variants.{Start, Stop, Sent, Re
 use Rattle.eeprom.specs.Stages.{Body, bodyTick}
 use Rattle.bus.specs.Holding.{firstHold, laterHolds}
 use Rattle.bus.specs.Wires.{Bus, after}
-use Rattle.reading.specs.Clock.{Clock, symbol, pass}
+use Rattle.reading.specs.Clock.{Clock, symbol}
 use Rattle.agreement.proofs.Table.{late, Fine, told, kept}
 use Rattle.agreement.proofs.Time.{Timed, bodiesAt, hearsAt, stopsAt, up, quiet-tick, start-tick, stop-tick, quiet-same}
 use Rattle.agreement.proofs.Ticks.{eye, bus, atStart}
@@ -33,23 +33,15 @@ use Rattle.agreement.proofs.Symbols.{Setting, Sound, inZero, inWait, sy
 abbrev pub Small : List ℕ → Type 0
 Small hs = allWithin mostHeld hs ≡ true
 
-and-left : (p q : Bool) → p && q ≡ true → p ≡ true
-and-left true q e = refl
-and-left false q e = e
-
-and-right : (p q : Bool) → p && q ≡ true → q ≡ true
-and-right true q e = e
-and-right false q e = absurd (false≢true e)
-
 pub small-first : (hs : List ℕ) → Small hs → firstHold hs ≤ mostHeld
 unfolding allWithin
 small-first [] s = omega arith
-small-first (h ∷ hs) s = leb-true h mostHeld (and-left (leb h mostHeld) _ s)
+small-first (h ∷ hs) s = leb-true h mostHeld (and-eq-true-iff (leb h mostHeld) _ .0 s .0)
 
 pub small-later : (hs : List ℕ) → Small hs → Small (laterHolds hs)
 unfolding allWithin
 small-later [] s = s
-small-later (h ∷ hs) s = and-right (leb h mostHeld) _ s
+small-later (h ∷ hs) s = and-eq-true-iff (leb h mostHeld) _ .0 s .1
 
 -- a clocked symbol by the first hold byte
 pub symbol-is : (κ : Clock) → symbol κ ≡ record { now = κ .now + (4 + firstHold (κ .holds)); holds = laterHolds (κ .holds) }

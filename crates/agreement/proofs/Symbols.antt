@@ -4,7 +4,7 @@ use mathlib.Core.Path.{_≡_, refl, ap, ap₂, sym, _∙_, subst}
 use mathlib.Core.Bool.{Bool, true, false, _&&_}
 use mathlib.Core.List.{List, map}
 use native.Mathlib.Omega.{arith}
-use native.Mathlib.Nat.{zero-add, suc-add, add-zero}
+use native.Mathlib.Nat.{zero-add, suc-add, add-zero, sub-self}
 use borrow.Author.Tests.{leb-true, leb-false, ltb-true, ltb-false}
 use lib.Dec.{leb, ltb}
 use Rattle.lines.specs.Levels.{hi, lo, mostHeld}
@@ -97,6 +97,7 @@ module _ (Q : Plan) (asked : ℕ) (c : Setting (Q .State)) (i : Sound Q c) where
     where
       no-less : (h : ℕ) → h ≡ h - 0
       no-less h = omega arith
+
       two-on : (t : ℕ) → suc (suc t) ≡ t + (2 + 0)
       two-on t = omega arith
   at-two (suc j) l =
@@ -107,26 +108,29 @@ module _ (Q : Plan) (asked : ℕ) (c : Setting (Q .State)) (i : Sound Q c) where
     where
       num : (j : ℕ) → 2 + suc j ≡ suc (2 + j)
       num j = omega arith
+
       less : (h j : ℕ) → suc j ≤ h → h - j ≡ suc (h - suc j)
       less h j l = omega arith
+
       few : (h j : ℕ) → suc j ≤ h → h ≤ mostHeld → j < mostHeld
       few h j l m = omega arith
+
       on : (t j : ℕ) → suc (t + (2 + j)) ≡ t + (2 + suc j)
       on t j = omega arith
 
   at-three : after Q asked (3 + firstHold (c .holds)) (inZero Q c) ≡ inThree Q c
   at-three =
       ap (λ m. after Q asked m (inZero Q c)) (num h) ∙ after-suc Q asked (2 + h) (inZero Q c)
-      ∙ ap (tick Q asked) (at-two h (omega arith) ∙ ap (λ m. bus Q (Two (c .symbol) h) (c .was) (c .plan) m (laterHolds (c .holds)) (eye lo (middle Q c) Nothing) (bodiesAt (c .now + (2 + h)) (c .chips))) (none h))
+      ∙ ap (tick Q asked) (at-two h (omega arith) ∙ ap (λ m. bus Q (Two (c .symbol) h) (c .was) (c .plan) m (laterHolds (c .holds)) (eye lo (middle Q c) Nothing) (bodiesAt (c .now + (2 + h)) (c .chips))) (sub-self h))
       ∙ two-tick Q asked (c .symbol) (c .was) (c .plan) (laterHolds (c .holds)) (c .drive) (i .fine) (c .now + (2 + h)) (c .chips) (i .driven) h
       ∙ ap (λ t. bus Q (Three (c .symbol) (middle Q c)) (c .was) (c .plan) 0 (laterHolds (c .holds)) (eye hi (middle Q c) (Level (middle Q c))) (bodiesAt t (c .chips))) (on (c .now) h)
     where
       h : ℕ
       h = firstHold (c .holds)
+
       num : (h : ℕ) → 3 + h ≡ suc (2 + h)
       num h = omega arith
-      none : (h : ℕ) → h - h ≡ 0
-      none h = omega arith
+
       on : (t h : ℕ) → suc (t + (2 + h)) ≡ t + (3 + h)
       on t h = omega arith
 
@@ -152,10 +156,13 @@ module _ (Q : Plan) (asked : ℕ) (c : Setting (Q .State)) (i : Sound Q c) where
     where
       h : ℕ
       h = firstHold (c .holds)
+
       two : (j : ℕ) → 2 + j ≡ suc (suc j)
       two j = omega arith
+
       three : (j h : ℕ) → suc (suc j) < 4 + h → h < j → 3 + h ≡ suc (suc j)
       three j h l g = omega arith
+
       go : (q : Bool) → leb j h ≡ q → P (suc (suc j)) (after Q asked (suc (suc j)) (inZero Q c))
       go true e = subst (λ m. P m (after Q asked m (inZero Q c))) (two j) (subst (P (2 + j)) (sym (at-two j (leb-true j h e))) (w j (leb-true j h e)))
       go false e = subst (λ m. P m (after Q asked m (inZero Q c))) (three j h l (leb-false j h e)) (subst (P (3 + h)) (sym at-three) r)
@@ -194,6 +201,7 @@ module _ (Q : Plan) (asked : ℕ) (d : Q .State) (hs : List ℕ) (t : ℕ) (zs :
     where
       less : (k j : ℕ) → suc j ≤ k → k - j ≡ suc (k - suc j)
       less k j l = omega arith
+
       on : (t j : ℕ) → suc (t + j) ≡ t + suc j
       on t j = omega arith
 
@@ -201,10 +209,7 @@ module _ (Q : Plan) (asked : ℕ) (d : Q .State) (hs : List ℕ) (t : ℕ) (zs :
   next-tick m n b e s p q = ap (λ i. after Q asked i from) (sym s) ∙ after-suc Q asked m from ∙ ap (tick Q asked) p ∙ q
 
   at-open-zero : after Q asked k from ≡ openZero Q d hs t zs k
-  at-open-zero = at-wait k (omega arith) ∙ ap (λ m. inWait Q d hs t zs m k) (none k)
-    where
-      none : (k : ℕ) → k - k ≡ 0
-      none k = omega arith
+  at-open-zero = at-wait k (omega arith) ∙ ap (λ m. inWait Q d hs t zs m k) (sub-self k)
 
   at-open-one : after Q asked (k + 1) from ≡ openOne Q d hs t zs k
   at-open-one =
@@ -252,12 +257,16 @@ module _ (Q : Plan) (asked : ℕ) (d : Q .State) (hs : List ℕ) (t : ℕ) (zs :
       in-start (suc (suc zero)) l = subst (P (k + 2)) (sym at-open-two) c
       in-start (suc (suc (suc zero))) l = subst (P (k + 3)) (sym at-open-three) r
       in-start (suc (suc (suc (suc m)))) l = absurd (omega arith)
+
       sooner : (i k : ℕ) → i < k → i ≤ k
       sooner i k l = omega arith
+
       past : (i k : ℕ) → k ≤ i → k + (i - k) ≡ i
       past i k l = omega arith
+
       soon : (i k : ℕ) → i < k + 4 → k ≤ i → i - k < 4
       soon i k l m = omega arith
+
       go : (q : Bool) → ltb i k ≡ q → P i (after Q asked i from)
       go true e = subst (P i) (sym (at-wait i (sooner i k (ltb-true i k e)))) (w i (ltb-true i k e))
       go false e = subst (λ n. P n (after Q asked n from)) (past i k (ltb-false i k e)) (in-start (i - k) (soon i k l (ltb-false i k e)))

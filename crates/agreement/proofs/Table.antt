@@ -10,7 +10,7 @@ use Rattle.lines.specs.Events.{event, note}
 use Rattle.lines.specs.declared.Noted.{Noted}
 use Rattle.lines.specs.declared.Noted.the-variants.{Nothing, Level}
 use Rattle.lines.specs.declared.Event.{Event}
-use Rattle.lines.specs.declared.Event.the-variants.{Quiet, Started, Stopped, Bit}
+use Rattle.lines.specs.declared.Event.the-variants.{Quiet, Started, Stopped}
 use Rattle.controller.specs.Symbols.{Row, four, row, drives}
 use Rattle.controller.specs.Faults.{faultOf}
 use Rattle.controller.specs.declared.Begin.the-variants.{First, Repeated}

@@ -1,6 +1,6 @@
 -- The clock of the plain reading: nine symbols a byte, one a message, counted along its course. Assumes nothing.
 use Prim.Native.Nat.{ℕ, zero, suc, _+_, _*_, _≤_}
-use mathlib.Core.Path.{_≡_, refl, ap, sym, _∙_}
+use mathlib.Core.Path.{_≡_, refl, ap, _∙_}
 use mathlib.Core.Bool.{Bool, true, false, _||_, not, cond}
 use mathlib.Core.List.{List, [], _∷_}
 use native.Mathlib.Omega.{arith}
@@ -91,6 +91,7 @@ clock-message m w = go (answered m w)
     carry (get q) =
         clock-reads _ _ 1 q _ _ ∙ nine-more (follow q (valueOf (listening m w) (w .cells))) (symbols 9 (w .clock))
         ∙ nine-more (suc (follow q (valueOf (listening m w) (w .cells)))) (w .clock)
+
     go : (q : Bool) → messageIf m q w .clock ≡ symbols (9 * suc (cond q (dataSent (listening m w) (orderOf (m .message)) w) 0)) (w .clock)
     go true = carry (orderOf (m .message))
     go false = refl
@@ -110,12 +111,16 @@ clock-messages (n ∷ ms) m w = go (answered m w || not (isCritical (m .message 
   where
     sum : (b : ℕ) → 9 * b + 1 ≡ 1 + 9 * b
     sum b = omega arith
+
     more : (s b k : ℕ) → 9 * s + 1 + (k + 9 * b) ≡ suc k + 9 * (s + b)
     more s b k = omega arith
+
     r : World
     r = messages ms n (started (symbol (message m w .clock)) (message m w))
+
     t : Sum
     t = tally ms n (started (symbol (message m w .clock)) (message m w))
+
     go : (q : Bool) → symbol (r .clock) ≡ symbols (clockedIn t) (symbol (message m w .clock))
         → let z : Sum = cond q (with (bytesSent m w) t) (alone (bytesSent m w)) in symbol (cond q r (message m w) .clock) ≡ symbols (clockedIn z) (w .clock)
     go true e =

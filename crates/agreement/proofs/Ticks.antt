@@ -1,7 +1,7 @@
 -- One tick of the bus: what its lines and the absence of a fault make of it; then the ticks of a clocked symbol, of a wait and of the first START, each
 -- with the chips at their time. The only file that sees phases move. Assumes nothing.
-use Prim.Native.Nat.{ℕ, zero, suc, _+_, _-_, _<_}
-use mathlib.Core.Path.{_≡_, refl, ap, ap₂, sym, _∙_}
+use Prim.Native.Nat.{ℕ, zero, suc, _-_, _<_}
+use mathlib.Core.Path.{_≡_, refl, ap, ap₂, _∙_}
 use mathlib.Core.Bool.{Bool, true, false, _&&_}
 use mathlib.Core.List.{List, map}
 use native.Mathlib.Omega.{arith}
@@ -13,9 +13,9 @@ use Rattle.lines.specs.declared.Lines.{Lines}
 use Rattle.lines.specs.declared.Noted.{Noted}
 use Rattle.lines.specs.declared.Noted.the-variants.{Nothing, Level}
 use Rattle.lines.specs.declared.Event.{Event}
-use Rattle.lines.specs.declared.Event.the-variants.{Quiet, Started}
+use Rattle.lines.specs.declared.Event.the-variants.{Started}
 use Rattle.lines.specs.declared.Eye.{Eye}
-use Rattle.controller.specs.Symbols.{Row, row, drives}
+use Rattle.controller.specs.Symbols.{Row, drives}
 use Rattle.controller.specs.Faults.{faultOf}
 use Rattle.controller.specs.Ticks.{Plan, Control, first, enter, move, settle, controlTick}
 use Rattle.controller.specs.declared.Begin.the-variants.{First}

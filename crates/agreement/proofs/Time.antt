@@ -1,6 +1,6 @@
 -- The chips on the wires with the tick from which each is free, in place of a busy time that falls: what a tick makes of them. Above this file no busy
 -- time is counted down. Assumes nothing.
-use Prim.Native.Nat.{ℕ, zero, suc, _+_, _-_}
+use Prim.Native.Nat.{ℕ, suc, _+_, _-_}
 use mathlib.Core.Path.{_≡_, refl, ap, ap₂}
 use mathlib.Core.Bool.{Bool, true, false, _&&_, cond}
 use mathlib.Core.List.{List, [], _∷_, map}

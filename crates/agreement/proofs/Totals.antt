@@ -1,27 +1,18 @@
 -- The plain reading of a whole list: its ticks by the list, the results and the holds, its outcomes, what it leaves of the result area, and that its ticks
 -- stay below the list's own bound. Assumes nothing.
-use Prim.Native.Nat.{ℕ, zero, suc, _+_, _*_, _≤_, _<_}
-use mathlib.Core.Path.{_≡_, refl, ap, ap₂, sym, _∙_, subst}
-use mathlib.Core.Bool.{Bool, true, false, _||_, not, cond}
-use mathlib.Core.List.{List, [], _∷_, _++_}
+use Prim.Native.Nat.{ℕ, _+_, _≤_}
+use mathlib.Core.Path.{_≡_, ap, ap₂, sym, _∙_, subst}
+use mathlib.Core.List.{List, [], _∷_}
 use native.Mathlib.Omega.{arith}
-use lib.ListN.{length, getD, drop, replicate, length-append, length-replicate, getD-replicate, List·getD-append}
-use lib.Seq.{getD-append-add}
-use Rattle.lines.specs.Levels.{mostHeld}
-use Rattle.orders.specs.Kinds.{isWrite, isCritical, dataOf, askedOf, quotaOf}
-use Rattle.orders.specs.Form.{Message, Transaction}
-use Rattle.orders.specs.Asking.{put, get, orderOf}
-use Rattle.orders.specs.Results.{Slotted, Batch, slotsOf, slotsOfAll, areaOf, blankArea, startArea, slotted, batches}
-use Rattle.controller.specs.Bound.{bytesOf, clockedOf, mostTicks}
-use Rattle.reading.specs.Clock.{symbol}
-use Rattle.reading.specs.Plain.{World, valueOf, listening, answered, message, started, transactions}
-use Rattle.agreement.specs.Course.{here, batchAt, sizeOf, opened, transaction}
-use Rattle.agreement.specs.Sums.{Sum, alone, with, sumIn, clockedIn, ticksOf, ticksAll}
+use lib.ListN.{length, drop}
+use Rattle.orders.specs.Form.{Transaction}
+use Rattle.orders.specs.Results.{Batch, areaOf, batches}
+use Rattle.reading.specs.Plain.{World, transactions}
+use Rattle.agreement.specs.Course.{batchAt, sizeOf, opened, transaction}
+use Rattle.agreement.specs.Sums.{Sum, sumIn, clockedIn, ticksOf, ticksAll}
 use Rattle.agreement.specs.Outcomes.{AllClosed}
-use Rattle.agreement.proofs.Quotas.{quota-fits}
-use Rattle.agreement.proofs.Standing.{Small, small-later}
-use Rattle.agreement.proofs.Right.{Right, Rights, RightAll}
-use Rattle.agreement.proofs.Tally.{dataSent, bytesSent, tally, ticks-by-tally, holds-by-tally, ticks-bound}
+use Rattle.agreement.proofs.Right.{RightAll}
+use Rattle.agreement.proofs.Tally.{tally, ticks-by-tally, holds-by-tally}
 use Rattle.agreement.proofs.Frames.{Frame, frame-none, frame-then, frame-wider}
 use Rattle.agreement.proofs.Sent.{Blank, sum-alike, transaction-frame, transaction-outcome, transaction-sum}
 
@@ -48,9 +39,10 @@ module _ (asked : ℕ) where
       → AllClosed (transactions asked (batches top ts) w .log .area) (batches top ts)
   unfolding transactions batches areaOf
   list-closed [] top w k l = tt
-  list-closed (t ∷ ts) top w k l =
-      (list-frame ts (top + sizeOf t) v (k .2) .below top (omega arith) ∙ transaction-outcome asked t top w (k .0) (k .1) (omega arith),
-      list-closed ts (top + sizeOf t) v (k .2) (subst (λ (n : ℕ). top + sizeOf t + areaOf ts ≤ n) (sym (transaction-frame asked t top w (k .0) (k .1) .size)) (omega arith)))
+  list-closed (t ∷ ts) top w k l = (
+    list-frame ts (top + sizeOf t) v (k .2) .below top (omega arith) ∙ transaction-outcome asked t top w (k .0) (k .1) (omega arith),
+    list-closed ts (top + sizeOf t) v (k .2) (subst (λ (n : ℕ). top + sizeOf t + areaOf ts ≤ n) (sym (transaction-frame asked t top w (k .0) (k .1) .size)) (omega arith)),
+  )
     where
       v : World
       v = transaction asked (batchAt top t) w
@@ -82,11 +74,15 @@ module _ (asked : ℕ) where
     where
       b : Batch
       b = batchAt top t
+
       v : World
       v = transaction asked b w
+
       a : List ℕ
       a = transactions asked (batches (top + sizeOf t) ts) v .log .area
+
       f : Frame top (top + sizeOf t) (w .log .area) (v .log .area)
       f = transaction-frame asked t top w (k .0) (k .1)
+
       join : (x y z : ℕ) → x + y + z ≡ x + (y + z)
       join x y z = omega arith

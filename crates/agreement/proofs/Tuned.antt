@@ -1,11 +1,10 @@
 -- The chips of the plain reading on the wires: those that a test picks stand in a stage of their own, the others are deaf. There is no search for "the"
 -- chip, and no case analysis on stages. Assumes nothing.
 use Prim.Native.Nat.{ℕ}
-use mathlib.Core.Path.{_≡_, refl, ap, ap₂, sym, _∙_}
-use mathlib.Core.Bool.{Bool, true, false, _&&_, _||_, not, cond, true≢false, false≢true}
+use mathlib.Core.Path.{_≡_, refl, ap, ap₂, _∙_}
+use mathlib.Core.Bool.{Bool, true, false, _&&_, _||_, not, cond, true≢false, false≢true, and-true}
 use mathlib.Core.List.{List, [], _∷_, map}
 use Rattle.lines.specs.Levels.{bitAt}
-use Rattle.lines.specs.declared.Event.{Event}
 use Rattle.lines.specs.declared.Event.the-variants.{Bit}
 use Rattle.eeprom.specs.Keeping.{Kept, byteNow}
 use Rattle.eeprom.specs.Stages.{hears, sdaOf}
@@ -78,10 +77,6 @@ Lone f (c ∷ cs) = (f c ≡ true → anyOf f cs ≡ false) × Lone f cs
 -- the chip sends bit k of the byte at its pointer
 abbrev pub sending : ℕ → Cell → Timed
 sending k c = wake (Sending k (byteNow (c .kept))) c
-
-and-true : (q : Bool) → q && true ≡ q
-and-true true = refl
-and-true false = refl
 
 -- two chips that sent at once would give the AND of their bytes: the one place where addresses have to be distinct
 pub up-sends : (f : Cell → Bool) (k : ℕ) (cs : List Cell) → Lone f cs → anyOf f cs ≡ true → up (map (tuned f (sending k)) cs) ≡ bitAt k (valueOf f cs)
