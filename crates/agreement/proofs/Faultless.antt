@@ -15,7 +15,7 @@ use Rattle.reading.specs.Clock.{Clock, symbol, pass}
 use Rattle.agreement.proofs.Table.{Fine}
 use Rattle.agreement.proofs.Time.{Timed, up}
 use Rattle.agreement.proofs.Symbols.{after-add, symbol-through, opening-through}
-use Rattle.agreement.proofs.Standing.{symbol-is, At, Rest, setting, sound, begins-as, waits-as}
+use Rattle.agreement.proofs.Standing.{symbol-is, Past, At, Rest, setting, sound, begins-as, waits-as}
 use Rattle.agreement.proofs.Interface.{Watch}
 use Rattle.agreement.proofs.Moments.{Clean, zero-clean, one-clean, two-clean, three-clean, wait-clean, open-zero-clean, open-one-clean, open-two-clean, open-three-clean}
 
@@ -39,7 +39,7 @@ module _ (Q : Plan) (asked : ℕ) (b : Bus (Q .State)) where
           subst (λ (i : ℕ). Clean Q asked (after Q asked i b)) (past n t (ltb-false n t e))
           (rw (after-add Q asked t (n - t) b) (more (n - t) (soon n t m l (ltb-false n t e))))
 
-  pub symbol-clean : {κ : Clock} {d : Q .State} {zs : List Timed} {p w : Bool} → At Q (after Q asked (κ .now) b) κ d zs p w → CleanTo (κ .now)
+  pub symbol-clean : {κ : Clock} {d : Q .State} {zs : List Timed} {π : Past} → At Q (after Q asked (κ .now) b) κ d zs π → CleanTo (κ .now)
       → (s : Symbol) (x : Bool) → Q .ask d ≡ clocked s → up zs ≡ x → Fine s x → CleanTo (symbol κ .now)
   symbol-clean {κ} a c s x e u f =
       subst (λ (i : Clock). CleanTo (i .now)) (sym (symbol-is κ))
@@ -63,7 +63,7 @@ module _ (Q : Plan) (asked : ℕ) (b : Bus (Q .State)) where
       record {
         bus = b;
         Before = λ κ d zs. CleanTo (κ .now);
-        Within = λ κ d zs p w. CleanTo (κ .now);
+        Within = λ κ d zs π. CleanTo (κ .now);
         After = λ κ d zs. CleanTo (κ .now);
         opens = λ a c k e u. opening-clean a c k e u;
         goes = λ a c s x n e u f. symbol-clean a c s x e u f;

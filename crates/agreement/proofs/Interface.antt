@@ -8,7 +8,7 @@ use Rattle.lines.specs.Levels.{hi, lo}
 use Rattle.lines.specs.declared.Event.the-variants.{Started, Bit}
 use Rattle.controller.specs.Faults.{isStop}
 use Rattle.controller.specs.Ticks.{Plan, first, clocked}
-use Rattle.controller.specs.declared.Begin.the-variants.{Repeated}
+use Rattle.controller.specs.declared.Begin.the-variants.{First, Repeated}
 use Rattle.controller.specs.declared.Symbol.{Symbol}
 use Rattle.controller.specs.declared.Symbol.the-variants.{Start, Stop, Sent, Received}
 use Rattle.bus.specs.Holding.{firstHold}
@@ -17,32 +17,31 @@ use Rattle.reading.specs.Clock.{Clock, symbol, pass}
 use Rattle.agreement.proofs.Table.{late, Fine}
 use Rattle.agreement.proofs.Time.{Timed, hearsAt, stopsAt, up}
 use Rattle.agreement.proofs.Symbols.{after-add}
-use Rattle.agreement.proofs.Standing.{symbol-is, hearing, At, Rest, arrives, stops, opens-at}
+use Rattle.agreement.proofs.Standing.{symbol-is, hearing, Past, leaves, At, Rest, arrives, stops, opens-at}
 
--- What is told of a run from its first bus on: before a transaction, inside it (with the SDA driven and seen last) and after it; and how the tale goes on
--- with a wait and the first START, with a clocked symbol, with STOP. The bus at every tick of these is in Symbols.antt.
+-- What is told of a run from its first bus on: before a transaction, inside it (with what the symbol before has left) and after it; and how the tale goes
+-- on with a wait and the first START, with a clocked symbol, with STOP. The bus at every tick of these is in Symbols.antt.
 pub record Watch (Q : Plan) (asked : ℕ) : Type 1 where
   pub bus : Bus (Q .State)
   pub Before : Clock → Q .State → List Timed → Type 0
-  pub Within : Clock → Q .State → List Timed → Bool → Bool → Type 0
+  pub Within : Clock → Q .State → List Timed → Past → Type 0
   pub After : Clock → Q .State → List Timed → Type 0
   pub opens : {κ : Clock} {d : Q .State} {zs : List Timed} → Rest Q (after Q asked (κ .now) bus) κ d zs → Before κ d zs
       → (k : ℕ) → Q .ask d ≡ first k → up zs ≡ true
-      → Within (pass (k + 4) κ) (Q .next d lo) (map (hearsAt (pass (k + 4) κ .now) Started) zs) lo lo
-  pub goes : {κ : Clock} {d : Q .State} {zs : List Timed} {p w : Bool} → At Q (after Q asked (κ .now) bus) κ d zs p w → Within κ d zs p w
+      → Within (pass (k + 4) κ) (Q .next d lo) (map (hearsAt (pass (k + 4) κ .now) Started) zs) (leaves (Start First) lo (pass (k + 4) κ .now) zs)
+  pub goes : {κ : Clock} {d : Q .State} {zs : List Timed} {π : Past} → At Q (after Q asked (κ .now) bus) κ d zs π → Within κ d zs π
       → (s : Symbol) (x : Bool) → isStop s ≡ false → Q .ask d ≡ clocked s → up zs ≡ x → Fine s x
-      → Within (symbol κ) (Q .next d (late s && x)) (map (hearsAt (symbol κ .now) (hearing s (late s && x))) zs) (late s) (late s && x)
-  pub closes : {κ : Clock} {d : Q .State} {zs : List Timed} {p w : Bool} → At Q (after Q asked (κ .now) bus) κ d zs p w → Within κ d zs p w
+      → let v = late s && x in Within (symbol κ) (Q .next d v) (map (hearsAt (symbol κ .now) (hearing s v)) zs) (leaves s v (symbol κ .now) zs)
+  pub closes : {κ : Clock} {d : Q .State} {zs : List Timed} {π : Past} → At Q (after Q asked (κ .now) bus) κ d zs π → Within κ d zs π
       → Q .ask d ≡ clocked Stop → up zs ≡ true
       → After (symbol κ) (Q .next d hi) (map (stopsAt asked (symbol κ .now)) zs)
 
 module _ (Q : Plan) (asked : ℕ) (O : Watch Q asked) where
   -- at the start of a symbol: the time, what the plan does next, and the chips once all bits are delivered
   pub record On (κ : Clock) (d : Q .State) (zs : List Timed) : Type 0 where
-    pub was : Bool
-    pub seen : Bool
-    pub at : At Q (after Q asked (κ .now) (O .bus)) κ d zs was seen
-    pub tale : O .Within κ d zs was seen
+    pub past : Past
+    pub at : At Q (after Q asked (κ .now) (O .bus)) κ d zs past
+    pub tale : O .Within κ d zs past
 
   -- between two transactions
   pub record Idle (R : Clock → Q .State → List Timed → Type 0) (κ : Clock) (d : Q .State) (zs : List Timed) : Type 0 where
@@ -52,15 +51,13 @@ module _ (Q : Plan) (asked : ℕ) (O : Watch Q asked) where
   module _ {κ : Clock} {d : Q .State} {zs : List Timed} (o : On κ d zs) where
     -- any clocked symbol but STOP
     crosses : (s : Symbol) (x : Bool) → isStop s ≡ false → Q .ask d ≡ clocked s → up zs ≡ x → Fine s x
-        → On (symbol κ) (Q .next d (late s && x)) (map (hearsAt (symbol κ .now) (hearing s (late s && x))) zs)
+        → let v = late s && x in On (symbol κ) (Q .next d v) (map (hearsAt (symbol κ .now) (hearing s v)) zs)
     crosses s x n e u f =
+        let v : Bool = late s && x in
         record {
-          was = late s;
-          seen = late s && x;
-          at = subst
-              (λ (c : Clock). At Q (after Q asked (c .now) (O .bus)) c (Q .next d (late s && x)) (map (hearsAt (c .now) (hearing s (late s && x))) zs) (late s) (late s && x))
-              (sym (symbol-is κ))
-              (rw (after-add Q asked (κ .now) (4 + firstHold (κ .holds)) (O .bus)) (arrives Q asked (o .at) s x n e u f));
+          past = leaves s v (symbol κ .now) zs;
+          at = subst (λ (c : Clock). At Q (after Q asked (c .now) (O .bus)) c (Q .next d v) (map (hearsAt (c .now) (hearing s v)) zs) (leaves s v (c .now) zs))
+              (sym (symbol-is κ)) (rw (after-add Q asked (κ .now) (4 + firstHold (κ .holds)) (O .bus)) (arrives Q asked (o .at) s x n e u f));
           tale = O .goes (o .at) (o .tale) s x n e u f;
         }
 
@@ -85,10 +82,9 @@ module _ (Q : Plan) (asked : ℕ) (O : Watch Q asked) where
   pub begins : {κ : Clock} {d : Q .State} {zs : List Timed} → Idle (O .Before) κ d zs → (k : ℕ) → Q .ask d ≡ first k → up zs ≡ true
       → On (pass (k + 4) κ) (Q .next d lo) (map (hearsAt (pass (k + 4) κ .now) Started) zs)
   unfolding pass
-  begins {κ} o k e u =
+  begins {κ} {zs = zs} o k e u =
       record {
-        was = lo;
-        seen = lo;
+        past = leaves (Start First) lo (κ .now + (k + 4)) zs;
         at = rw (after-add Q asked (κ .now) (k + 4) (O .bus)) (opens-at Q asked (o .rest) k e u);
         tale = O .opens (o .rest) (o .tale) k e u;
       }

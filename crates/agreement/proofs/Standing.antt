@@ -60,14 +60,26 @@ hearing Stop v = Stopped
 hearing (Sent b) v = Bit v
 hearing Received v = Bit v
 
+-- what the symbol before has left: the SDA driven and seen last, the bit noted then, and the chips, to which it is still to be delivered
+pub record Past : Type 0 where
+  pub was : Bool
+  pub seen : Bool
+  pub noted : Noted
+  pub waiting : List Timed
+
+-- a symbol leaves it, if it ends before tick t with v on SDA (a STOP leaves both lines free: `Rest`, below)
+abbrev pub leaves : Symbol → Bool → ℕ → List Timed → Past
+leaves (Start b) v t zs = record { was = lo; seen = v; noted = Nothing; waiting = map (hearsAt t Started) zs }
+leaves Stop v t zs = record { was = hi; seen = v; noted = Nothing; waiting = zs }
+leaves (Sent b) v t zs = record { was = b; seen = v; noted = Level v; waiting = zs }
+leaves Received v t zs = record { was = hi; seen = v; noted = Level v; waiting = zs }
+
 module _ (Q : Plan) where
-  -- at the start of a symbol: p was driven last on SDA, and w seen
-  pub record At (b : Bus (Q .State)) (κ : Clock) (d : Q .State) (zs : List Timed) (p w : Bool) : Type 0 where
-    pub noted : Noted
-    pub waiting : List Timed
-    pub is : b ≡ atStart Q p d (κ .holds) (eye hi w noted) (bodiesAt (κ .now) waiting)
-    pub settled : map (hearsAt (κ .now) (delivered noted)) waiting ≡ zs
-    pub level : p && up waiting ≡ w
+  -- at the start of a symbol: the bus, all of it, by the clock, the plan and the past; and the chips zs once the noted bit is delivered
+  pub record At (b : Bus (Q .State)) (κ : Clock) (d : Q .State) (zs : List Timed) (π : Past) : Type 0 where
+    pub is : b ≡ atStart Q (π .was) d (κ .holds) (eye hi (π .seen) (π .noted)) (bodiesAt (κ .now) (π .waiting))
+    pub settled : map (hearsAt (κ .now) (delivered (π .noted))) (π .waiting) ≡ zs
+    pub level : π .was && up (π .waiting) ≡ π .seen
     pub small : Small (κ .holds)
 
   -- between two transactions: both lines are let go, and no bit waits
@@ -75,19 +87,19 @@ module _ (Q : Plan) where
     pub is : b ≡ atStart Q hi d (κ .holds) (eye hi hi Nothing) (bodiesAt (κ .now) zs)
     pub small : Small (κ .holds)
 
-  module _ {b : Bus (Q .State)} {κ : Clock} {d : Q .State} {zs : List Timed} {p w : Bool} (a : At b κ d zs p w) where
+  module _ {b : Bus (Q .State)} {κ : Clock} {d : Q .State} {zs : List Timed} {π : Past} (a : At b κ d zs π) where
     -- the symbol that begins here, if the chips drive x
     abbrev pub setting : Symbol → Bool → Setting (Q .State)
     setting s x =
         record {
           symbol = s;
-          was = p;
+          was = π .was;
           plan = d;
           holds = κ .holds;
-          seen = w;
-          noted = a .noted;
+          seen = π .seen;
+          noted = π .noted;
           now = κ .now;
-          waiting = a .waiting;
+          waiting = π .waiting;
           chips = zs;
           drive = x;
         }
@@ -96,7 +108,7 @@ module _ (Q : Plan) where
     sound s x u f = record { settled = a .settled; driven = u; fine = f; held = small-first (κ .holds) (a .small) }
 
     pub begins-as : (s : Symbol) (x : Bool) → Q .ask d ≡ clocked s → b ≡ inZero Q (setting s x)
-    begins-as s x e = a .is ∙ ap (λ (k : Ask). bus Q (enter k) p d 0 (κ .holds) (eye hi w (a .noted)) (bodiesAt (κ .now) (a .waiting))) e
+    begins-as s x e = a .is ∙ ap (λ (k : Ask). bus Q (enter k) (π .was) d 0 (κ .holds) (eye hi (π .seen) (π .noted)) (bodiesAt (κ .now) (π .waiting))) e
 
   -- so does the wait before a transaction
   pub waits-as : {b : Bus (Q .State)} {κ : Clock} {d : Q .State} {zs : List Timed} → Rest b κ d zs → (k : ℕ) → Q .ask d ≡ first k
@@ -109,7 +121,7 @@ next-now : (t h : ℕ) → suc (t + (3 + h)) ≡ t + (4 + h)
 next-now t h = omega arith
 
 module _ (Q : Plan) (asked : ℕ) where
-  module _ {b : Bus (Q .State)} {κ : Clock} {d : Q .State} {zs : List Timed} {p w : Bool} (a : At Q b κ d zs p w) where
+  module _ {b : Bus (Q .State)} {κ : Clock} {d : Q .State} {zs : List Timed} {π : Past} (a : At Q b κ d zs π) where
     abbrev gone : ℕ
     gone = 4 + firstHold (κ .holds)
 
@@ -123,31 +135,21 @@ module _ (Q : Plan) (asked : ℕ) where
         ap (after Q asked gone) (begins-as Q a s x e) ∙ symbol-ends Q asked (setting Q a s x) (sound Q a s x u f)
         ∙ ap (atStart Q (late s) (Q .next d (late s && x)) (laterHolds (κ .holds)) (eye hi (late s && x) (kept s (late s && x)))) q
 
-    -- a bit of value v: the chips hear it in the next phase 0
-    bit-arrives : (s : Symbol) (x v : Bool) → Q .ask d ≡ clocked s → up zs ≡ x → Fine s x → told s ≡ Quiet → kept s v ≡ Level v → late s && x ≡ v
-        → At Q (after Q asked gone b) ticked (Q .next d v) (map (hearsAt (ticked .now) (Bit v)) zs) (late s) v
-    bit-arrives s x v e u f t k q =
-        record {
-          noted = Level v;
-          waiting = zs;
-          is = reached s x e u f (bodiesAt (ticked .now) zs)
-              (ap (λ (n : Event). map (bodyTick asked n) (bodiesAt (κ .now + (3 + firstHold (κ .holds))) zs)) t
-              ∙ quiet-tick asked (κ .now + (3 + firstHold (κ .holds))) zs ∙ ap (λ (n : ℕ). bodiesAt n zs) (next-now (κ .now) (firstHold (κ .holds))))
-              ∙ ap (λ (y : Bool). atStart Q (late s) (Q .next d y) (laterHolds (κ .holds)) (eye hi y (kept s y)) (bodiesAt (ticked .now) zs)) q
-              ∙ ap (λ (n : Noted). atStart Q (late s) (Q .next d v) (laterHolds (κ .holds)) (eye hi v n) (bodiesAt (ticked .now) zs)) k;
-          settled = refl;
-          level = ap (λ (y : Bool). late s && y) u ∙ q;
-          small = small-later (κ .holds) (a .small);
-        }
+    -- a bit: the chips hear it in the next phase 0
+    bit-at : (s : Symbol) (x : Bool) → Q .ask d ≡ clocked s → up zs ≡ x → Fine s x → told s ≡ Quiet
+        → after Q asked gone b ≡ atStart Q (late s) (Q .next d (late s && x)) (laterHolds (κ .holds)) (eye hi (late s && x) (kept s (late s && x))) (bodiesAt (ticked .now) zs)
+    bit-at s x e u f t =
+        reached s x e u f (bodiesAt (ticked .now) zs)
+        (ap (λ (n : Event). map (bodyTick asked n) (bodiesAt (κ .now + (3 + firstHold (κ .holds))) zs)) t ∙ quiet-tick asked (κ .now + (3 + firstHold (κ .holds))) zs
+        ∙ ap (λ (n : ℕ). bodiesAt n zs) (next-now (κ .now) (firstHold (κ .holds))))
 
     -- any clocked symbol but STOP
     pub arrives : (s : Symbol) (x : Bool) → isStop s ≡ false → Q .ask d ≡ clocked s → up zs ≡ x → Fine s x
-        → At Q (after Q asked gone b) ticked (Q .next d (late s && x)) (map (hearsAt (ticked .now) (hearing s (late s && x))) zs) (late s) (late s && x)
+        → let v = late s && x in
+        At Q (after Q asked gone b) ticked (Q .next d v) (map (hearsAt (ticked .now) (hearing s v)) zs) (leaves s v (ticked .now) zs)
     arrives (Start First) x n e u f = absurd f
     arrives (Start Repeated) x n e u f =
         record {
-          noted = Nothing;
-          waiting = map (hearsAt (ticked .now) Started) zs;
           is = reached (Start Repeated) x e u f (bodiesAt (ticked .now) (map (hearsAt (ticked .now) Started) zs))
               (start-tick asked (κ .now + (3 + firstHold (κ .holds))) zs
               ∙ ap (λ (n : ℕ). bodiesAt n (map (hearsAt n Started) zs)) (next-now (κ .now) (firstHold (κ .holds))));
@@ -156,8 +158,9 @@ module _ (Q : Plan) (asked : ℕ) where
           small = small-later (κ .holds) (a .small);
         }
     arrives Stop x n e u f = absurd (false≢true (sym n))
-    arrives (Sent c) x n e u f = bit-arrives (Sent c) x (c && x) e u f refl refl refl
-    arrives Received x n e u f = bit-arrives Received x x e u f refl refl refl
+    arrives (Sent c) x n e u f =
+        record { is = bit-at (Sent c) x e u f refl; settled = refl; level = ap (λ (y : Bool). c && y) u; small = small-later (κ .holds) (a .small) }
+    arrives Received x n e u f = record { is = bit-at Received x e u f refl; settled = refl; level = u; small = small-later (κ .holds) (a .small) }
 
     pub stops : Q .ask d ≡ clocked Stop → up zs ≡ true
         → Rest Q (after Q asked gone b) ticked (Q .next d hi) (map (stopsAt asked (ticked .now)) zs)
@@ -170,11 +173,10 @@ module _ (Q : Plan) (asked : ℕ) where
         }
 
   pub opens-at : {b : Bus (Q .State)} {κ : Clock} {d : Q .State} {zs : List Timed} → Rest Q b κ d zs → (k : ℕ) → Q .ask d ≡ first k → up zs ≡ true
-      → At Q (after Q asked (k + 4) b) (record { now = κ .now + (k + 4); holds = κ .holds }) (Q .next d lo) (map (hearsAt (κ .now + (k + 4)) Started) zs) lo lo
+      → At Q (after Q asked (k + 4) b) (record { now = κ .now + (k + 4); holds = κ .holds }) (Q .next d lo) (map (hearsAt (κ .now + (k + 4)) Started) zs)
+      (leaves (Start First) lo (κ .now + (k + 4)) zs)
   opens-at {κ = κ} {d = d} {zs = zs} a k e u =
       record {
-        noted = Nothing;
-        waiting = map (hearsAt (κ .now + (k + 4)) Started) zs;
         is = ap (after Q asked (k + 4)) (waits-as Q a k e) ∙ opening-ends Q asked d (κ .holds) (κ .now) zs u k;
         settled = quiet-same asked (κ .now + (k + 4)) (map (hearsAt (κ .now + (k + 4)) Started) zs);
         level = refl;
