@@ -32,14 +32,17 @@ use Rattle.agreement.proofs.Board.{Asleep, asleep-at}
 abbrev pub first : List Batch → Log → List ℕ → List Body → Bus State
 first ts l hs bs = record { control = begun orders (opens ts l); holding = record { left = 0; list = hs }; eye = opened; chips = bs }
 
-abbrev pub final : World → Bus State
-final w =
+abbrev pub finalWith : World → List Body → Bus State
+finalWith w bs =
     record {
       control = record { phase = Over Clear; was = hi; plan = opens [] (w .log) };
       holding = record { left = 0; list = w .clock .holds };
       eye = opened;
-      chips = map (bodyOf (w .clock .now)) (w .cells);
+      chips = bs;
     }
+
+abbrev pub final : World → Bus State
+final w = finalWith w (map (bodyOf (w .clock .now)) (w .cells))
 
 -- the plain reading from there
 abbrev pub reads : (asked : ℕ) → List Batch → Log → List ℕ → List Body → World
@@ -77,7 +80,7 @@ module _ (asked : ℕ) (ts : List Batch) (l : Log) (hs : List ℕ) (bs : List Bo
       subst (λ (us : List Batch). Agrees asked (first us l hs bs) w) (append-nil ts)
       (record {
         last = rests [] .rest .is
-            ∙ ap (λ (x : List Body). record { control = record { phase = Over Clear; was = hi; plan = opens [] (w .log) }; holding = record { left = 0; list = w .clock .holds }; eye = opened; chips = x })
+            ∙ ap (finalWith w)
             (map-by (bodyAt (w .clock .now)) (wake Deaf) (bodyOf (w .clock .now)) (λ c. refl) (w .cells));
         clean = rests [] .tale;
       })

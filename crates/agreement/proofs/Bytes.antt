@@ -110,8 +110,9 @@ module _ (asked : ℕ) (O : Watch orders asked) where
   address-ninth y t {κ} x cs o =
       let f : (Cell → Bool) = listens (y / 2) t in
       let v : Bool = not (anyOf f cs) in
-      subst (Has (symbol κ) (step addressed v x)) (map-by _ _ _ (tuned-bit (symbol κ .now) v f (wake (Named (eqb (y % 2) 1))) (begun (eqb (y % 2) 1)) (named-next (symbol κ .now) v (eqb (y % 2) 1))) cs)
-      (receives orders asked O o v refl (up-pulled f (wake (Named (eqb (y % 2) 1))) (λ c. refl) cs))
+      let r : Bool = eqb (y % 2) 1 in
+      subst (Has (symbol κ) (step addressed v x)) (map-by _ _ _ (tuned-bit (symbol κ .now) v f (wake (Named r)) (begun r) (named-next (symbol κ .now) v r)) cs)
+      (receives orders asked O o v refl (up-pulled f (wake (Named r)) (λ c. refl) cs))
 
   module _ (f : Cell → Bool) where
     -- a byte written, n before it

@@ -131,9 +131,6 @@ module _ (m : Message) (s : ℕ) (w : World) where
   unfolding note readMark
   message-frame k = go (answered here w)
     where
-      fits : (a b r : ℕ) → r ≤ b → s + 2 + r ≤ s + (2 + b)
-      fits a b r h = omega arith
-
       carry : (q : Bool) → isWrite (m .kind) ≡ q
           → Frame s (s + slotsOf m) (w .log .area) (carried f s (cond q (put (m .sent)) (get (quotaOf (m .kind) (m .asked)))) (addressed here true w) .log .area)
       carry true e =
@@ -142,11 +139,12 @@ module _ (m : Message) (s : ℕ) (w : World) where
       carry false e =
           let v : ℕ = valueOf f (w .cells) in
           let r : ℕ = askedOf (m .kind) (m .asked) in
-          let l : suc (follow (quotaOf (m .kind) (m .asked)) v) ≤ r = quota-fits (m .kind) (m .asked) v e (k .form .asked) in
+          let q : Quota = quotaOf (m .kind) (m .asked) in
+          let l : suc (follow q v) ≤ r = quota-fits (m .kind) (m .asked) v e (k .form .asked) in
           frame-then (frame-set s (s + slotsOf m) (w .log .area) s 1 (omega arith) (omega arith))
           (frame-wider s (s + slotsOf m) (omega arith) (omega arith)
           (frame-then (read-frame s 0 r v (addressed here true w .log .area) (omega arith))
-          (reads-frame f s 1 (quotaOf (m .kind) (m .asked)) (follow (quotaOf (m .kind) (m .asked)) v) (readsOne f s 0 (quotaOf (m .kind) (m .asked)) (addressed here true w)) r (omega arith))))
+          (reads-frame f s 1 q (follow q v) (readsOne f s 0 q (addressed here true w)) r (omega arith))))
 
       go : (q : Bool) → Frame s (s + slotsOf m) (w .log .area) (messageIf here q w .log .area)
       go true = carry (isWrite (m .kind)) refl

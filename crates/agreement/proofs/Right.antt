@@ -94,7 +94,9 @@ module _ (s : List ℕ) (small : Bytes s) where
   begin-right : (p : ℕ) (go : ℕ → ℕ → Parsed) → ((left q : ℕ) → ParsedRight (go left q)) → ParsedRight (beginAt s p go)
   begin-right p go h = tests (ltb p (length s)) (countRight (getD s p 0)) (leb (p + 3) (length s))
     where
-      tests : (a b c : Bool) → ParsedRight (cond a (cond b (cond c (after (messageAt s (p + 3)) (λ m q. andTransaction (waitAt s p) m (go (getD s p 0 - 1) q))) (wrong (cut s))) (wrong (breaks p Count))) (right [] []))
+      rest : Parsed
+      rest = after (messageAt s (p + 3)) (λ m q. andTransaction (waitAt s p) m (go (getD s p 0 - 1) q))
+      tests : (a b c : Bool) → ParsedRight (cond a (cond b (cond c rest (wrong (cut s))) (wrong (breaks p Count))) (right [] []))
       tests true true true = after-right (messageAt s (p + 3)) _ (message-right (p + 3)) (λ m q k. and-transaction (waitAt s p) m (go (getD s p 0 - 1) q) k (h _ q))
       tests true true false = tt
       tests true false c = tt

@@ -109,7 +109,8 @@ messages-sum [] m s w k ks z l =
 messages-sum (n ∷ ms) m s w k ks z l =
     go (answered (here s m) w || not (isCritical (m .kind))) refl
     (messages-frame ms n (s + slotsOf m) v (ks .0) (ks .1))
-    (messages-sum ms n (s + slotsOf m) v (ks .0) (ks .1) (λ i g h. f .above i g ∙ z i (omega arith) (omega arith)) (subst (λ (x : ℕ). s + slotsOf m + slotsOfAll (n ∷ ms) ≤ x) (sym (f .size)) (omega arith)))
+    (messages-sum ms n (s + slotsOf m) v (ks .0) (ks .1) (λ i g h. f .above i g ∙ z i (omega arith) (omega arith))
+    (subst (λ (x : ℕ). s + slotsOf m + slotsOfAll (n ∷ ms) ≤ x) (sym (f .size)) (omega arith)))
   where
     v : World
     v = started (symbol (message (here s m) w .clock)) (message (here s m) w)

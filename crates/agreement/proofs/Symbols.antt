@@ -4,7 +4,7 @@ use mathlib.Core.Path.{_≡_, refl, ap, ap₂, sym, _∙_, subst}
 use mathlib.Core.Bool.{Bool, true, false, _&&_}
 use mathlib.Core.List.{List, map}
 use native.Mathlib.Omega.{arith}
-use native.Mathlib.Nat.{zero-add, suc-add, add-zero, sub-self}
+use native.Mathlib.Nat.{zero-add, suc-add, add-zero, sub-zero, sub-self}
 use borrow.Author.Tests.{leb-true, leb-false, ltb-true, ltb-false}
 use lib.Dec.{leb, ltb}
 use Rattle.lines.specs.Levels.{hi, lo, mostHeld}
@@ -56,24 +56,30 @@ module _ (Q : Plan) (c : Setting (Q .State)) where
   abbrev pub last : Bool
   last = late (c .symbol) && c .drive
 
-  -- the bus in its phases, in phase 2 after j held ticks
+  -- the bus in its phases: with the chips then, with the ticks for which SCL is still held, and at a tick
+  abbrev pub oneWith : List Timed → Bus (Q .State)
+  oneWith zs =
+      bus Q (One (c .symbol)) (c .was) (c .plan) (suc (firstHold (c .holds))) (laterHolds (c .holds)) (eye lo (c .was && up (c .waiting)) Nothing)
+      (bodiesAt (suc (c .now)) zs)
+
+  abbrev pub twoAt : (gone left t : ℕ) → Bus (Q .State)
+  twoAt j left t = bus Q (Two (c .symbol) j) (c .was) (c .plan) left (laterHolds (c .holds)) (eye lo middle Nothing) (bodiesAt t (c .chips))
+
+  abbrev pub threeAt : ℕ → Bus (Q .State)
+  threeAt t = bus Q (Three (c .symbol) middle) (c .was) (c .plan) 0 (laterHolds (c .holds)) (eye hi middle (Level middle)) (bodiesAt t (c .chips))
+
+  -- at its ticks, in phase 2 after j held ones
   abbrev pub inZero : Bus (Q .State)
   inZero = bus Q (Zero (c .symbol)) (c .was) (c .plan) 0 (c .holds) (eye hi (c .seen) (c .noted)) (bodiesAt (c .now) (c .waiting))
 
   abbrev pub inOne : Bus (Q .State)
-  inOne =
-      bus Q (One (c .symbol)) (c .was) (c .plan) (suc (firstHold (c .holds))) (laterHolds (c .holds)) (eye lo (c .was && up (c .waiting)) Nothing)
-      (bodiesAt (suc (c .now)) (c .chips))
+  inOne = oneWith (c .chips)
 
   abbrev pub inTwo : ℕ → Bus (Q .State)
-  inTwo j =
-      bus Q (Two (c .symbol) j) (c .was) (c .plan) (firstHold (c .holds) - j) (laterHolds (c .holds)) (eye lo middle Nothing)
-      (bodiesAt (c .now + (2 + j)) (c .chips))
+  inTwo j = twoAt j (firstHold (c .holds) - j) (c .now + (2 + j))
 
   abbrev pub inThree : Bus (Q .State)
-  inThree =
-      bus Q (Three (c .symbol) middle) (c .was) (c .plan) 0 (laterHolds (c .holds)) (eye hi middle (Level middle))
-      (bodiesAt (c .now + (3 + firstHold (c .holds))) (c .chips))
+  inThree = threeAt (c .now + (3 + firstHold (c .holds)))
 
   -- what is asked of it
   pub record Sound : Type 0 where
@@ -83,80 +89,70 @@ module _ (Q : Plan) (c : Setting (Q .State)) where
     pub held : firstHold (c .holds) ≤ mostHeld
 
 module _ (Q : Plan) (asked : ℕ) (c : Setting (Q .State)) (i : Sound Q c) where
+  abbrev h : ℕ
+  h = firstHold (c .holds)
+
   at-one : after Q asked 1 (inZero Q c) ≡ inOne Q c
   unfolding after
   at-one =
-      zero-tick Q asked (c .symbol) (c .was) (c .plan) (c .holds) (c .drive) (i .fine) (c .seen) (c .noted) (c .now) (c .waiting)
-      ∙ ap (λ (zs : List Timed). bus Q (One (c .symbol)) (c .was) (c .plan) (suc (firstHold (c .holds))) (laterHolds (c .holds)) (eye lo (c .was && up (c .waiting)) Nothing) (bodiesAt (suc (c .now)) zs)) (i .settled)
+      zero-tick Q asked (c .symbol) (c .was) (c .plan) (c .holds) (c .drive) (i .fine) (c .seen) (c .noted) (c .now) (c .waiting) ∙ ap (oneWith Q c) (i .settled)
 
-  at-two : (j : ℕ) → j ≤ firstHold (c .holds) → after Q asked (2 + j) (inZero Q c) ≡ inTwo Q c j
+  at-two : (j : ℕ) → j ≤ h → after Q asked (2 + j) (inZero Q c) ≡ inTwo Q c j
   at-two zero l =
       after-suc Q asked 1 (inZero Q c) ∙ ap (tick Q asked) at-one
-      ∙ one-tick Q asked (c .symbol) (c .was) (c .plan) (laterHolds (c .holds)) (c .drive) (i .fine) (suc (c .now)) (c .chips) (i .driven) (firstHold (c .holds)) _
-      ∙ ap₂ (λ m t. bus Q (Two (c .symbol) 0) (c .was) (c .plan) m (laterHolds (c .holds)) (eye lo (middle Q c) Nothing) (bodiesAt t (c .chips))) (no-less (firstHold (c .holds))) (two-on (c .now))
+      ∙ one-tick Q asked (c .symbol) (c .was) (c .plan) (laterHolds (c .holds)) (c .drive) (i .fine) (suc (c .now)) (c .chips) (i .driven) h _
+      ∙ ap₂ (twoAt Q c 0) (sym (sub-zero h)) (two-on (c .now))
     where
-      no-less : (h : ℕ) → h ≡ h - 0
-      no-less h = omega arith
-
       two-on : (t : ℕ) → suc (suc t) ≡ t + (2 + 0)
       two-on t = omega arith
   at-two (suc j) l =
       ap (λ m. after Q asked m (inZero Q c)) (num j) ∙ after-suc Q asked (2 + j) (inZero Q c)
-      ∙ ap (tick Q asked) (at-two j (omega arith) ∙ ap (λ m. bus Q (Two (c .symbol) j) (c .was) (c .plan) m (laterHolds (c .holds)) (eye lo (middle Q c) Nothing) (bodiesAt (c .now + (2 + j)) (c .chips))) (less (firstHold (c .holds)) j l))
-      ∙ held-tick Q asked (c .symbol) (c .was) (c .plan) (laterHolds (c .holds)) (c .drive) (i .fine) (c .now + (2 + j)) (c .chips) (i .driven) j (firstHold (c .holds) - suc j) (few (firstHold (c .holds)) j l (i .held))
-      ∙ ap (λ t. bus Q (Two (c .symbol) (suc j)) (c .was) (c .plan) (firstHold (c .holds) - suc j) (laterHolds (c .holds)) (eye lo (middle Q c) Nothing) (bodiesAt t (c .chips))) (on (c .now) j)
+      ∙ ap (tick Q asked) (at-two j (omega arith) ∙ ap (λ m. twoAt Q c j m (c .now + (2 + j))) (less h j l))
+      ∙ held-tick Q asked (c .symbol) (c .was) (c .plan) (laterHolds (c .holds)) (c .drive) (i .fine) (c .now + (2 + j)) (c .chips) (i .driven) j (h - suc j)
+      (few h j l (i .held))
+      ∙ ap (twoAt Q c (suc j) (h - suc j)) (on (c .now) j)
     where
       num : (j : ℕ) → 2 + suc j ≡ suc (2 + j)
       num j = omega arith
-
       less : (h j : ℕ) → suc j ≤ h → h - j ≡ suc (h - suc j)
       less h j l = omega arith
-
       few : (h j : ℕ) → suc j ≤ h → h ≤ mostHeld → j < mostHeld
       few h j l m = omega arith
-
       on : (t j : ℕ) → suc (t + (2 + j)) ≡ t + (2 + suc j)
       on t j = omega arith
 
-  at-three : after Q asked (3 + firstHold (c .holds)) (inZero Q c) ≡ inThree Q c
+  at-three : after Q asked (3 + h) (inZero Q c) ≡ inThree Q c
   at-three =
       ap (λ m. after Q asked m (inZero Q c)) (num h) ∙ after-suc Q asked (2 + h) (inZero Q c)
-      ∙ ap (tick Q asked) (at-two h (omega arith) ∙ ap (λ m. bus Q (Two (c .symbol) h) (c .was) (c .plan) m (laterHolds (c .holds)) (eye lo (middle Q c) Nothing) (bodiesAt (c .now + (2 + h)) (c .chips))) (sub-self h))
+      ∙ ap (tick Q asked) (at-two h (omega arith) ∙ ap (λ m. twoAt Q c h m (c .now + (2 + h))) (sub-self h))
       ∙ two-tick Q asked (c .symbol) (c .was) (c .plan) (laterHolds (c .holds)) (c .drive) (i .fine) (c .now + (2 + h)) (c .chips) (i .driven) h
-      ∙ ap (λ t. bus Q (Three (c .symbol) (middle Q c)) (c .was) (c .plan) 0 (laterHolds (c .holds)) (eye hi (middle Q c) (Level (middle Q c))) (bodiesAt t (c .chips))) (on (c .now) h)
+      ∙ ap (threeAt Q c) (on (c .now) h)
     where
-      h : ℕ
-      h = firstHold (c .holds)
-
       num : (h : ℕ) → 3 + h ≡ suc (2 + h)
       num h = omega arith
-
       on : (t h : ℕ) → suc (t + (2 + h)) ≡ t + (3 + h)
       on t h = omega arith
 
   -- the symbol's end: the plan has the bit that was seen, and a START or STOP is heard
-  pub symbol-ends : after Q asked (4 + firstHold (c .holds)) (inZero Q c)
+  pub symbol-ends : after Q asked (4 + h) (inZero Q c)
       ≡ atStart Q (late (c .symbol)) (Q .next (c .plan) (last Q c)) (laterHolds (c .holds)) (eye hi (last Q c) (kept (c .symbol) (last Q c)))
-      (map (bodyTick asked (told (c .symbol))) (bodiesAt (c .now + (3 + firstHold (c .holds))) (c .chips)))
+      (map (bodyTick asked (told (c .symbol))) (bodiesAt (c .now + (3 + h)) (c .chips)))
   symbol-ends =
-      ap (λ m. after Q asked m (inZero Q c)) (num (firstHold (c .holds))) ∙ after-suc Q asked (3 + firstHold (c .holds)) (inZero Q c) ∙ ap (tick Q asked) at-three
-      ∙ three-tick Q asked (c .symbol) (c .was) (c .plan) (laterHolds (c .holds)) (c .drive) (i .fine) (c .now + (3 + firstHold (c .holds))) (c .chips) (i .driven)
+      ap (λ m. after Q asked m (inZero Q c)) (num (h)) ∙ after-suc Q asked (3 + h) (inZero Q c) ∙ ap (tick Q asked) at-three
+      ∙ three-tick Q asked (c .symbol) (c .was) (c .plan) (laterHolds (c .holds)) (c .drive) (i .fine) (c .now + (3 + h)) (c .chips) (i .driven)
     where
       num : (h : ℕ) → 4 + h ≡ suc (3 + h)
       num h = omega arith
 
   -- at every tick of the symbol: what holds of its phases holds of the bus
   pub symbol-through : (P : ℕ → Bus (Q .State) → Type 0) → P 0 (inZero Q c) → P 1 (inOne Q c)
-      → ((j : ℕ) → j ≤ firstHold (c .holds) → P (2 + j) (inTwo Q c j)) → P (3 + firstHold (c .holds)) (inThree Q c)
-      → (k : ℕ) → k < 4 + firstHold (c .holds) → P k (after Q asked k (inZero Q c))
+      → ((j : ℕ) → j ≤ h → P (2 + j) (inTwo Q c j)) → P (3 + h) (inThree Q c)
+      → (k : ℕ) → k < 4 + h → P k (after Q asked k (inZero Q c))
   unfolding after
   symbol-through P z o w r zero l = z
   symbol-through P z o w r (suc zero) l = subst (P 1) (sym at-one) o
   symbol-through P z o w r (suc (suc j)) l = go (leb j h) refl
     where
-      h : ℕ
-      h = firstHold (c .holds)
-
       two : (j : ℕ) → 2 + j ≡ suc (suc j)
       two j = omega arith
 
@@ -190,10 +186,7 @@ module _ (Q : Plan) (asked : ℕ) (d : Q .State) (hs : List ℕ) (t : ℕ) (zs :
 
   at-wait : (j : ℕ) → j ≤ k → after Q asked j from ≡ inWait Q d hs t zs (k - j) j
   unfolding after
-  at-wait zero l = ap (λ m. inWait Q d hs t zs m 0) (num k)
-    where
-      num : (k : ℕ) → k ≡ k - 0
-      num k = omega arith
+  at-wait zero l = ap (λ m. inWait Q d hs t zs m 0) (sym (sub-zero k))
   at-wait (suc j) l =
       after-suc Q asked j from ∙ ap (tick Q asked) (at-wait j (omega arith) ∙ ap (λ m. inWait Q d hs t zs m j) (less k j l))
       ∙ wait-tick Q asked hi d hs (t + j) zs u (k - suc j)

@@ -97,7 +97,8 @@ module _ (Q : Plan) (asked : ℕ) where
           → tick Q asked (bus Q (Two s j) p d (suc h) hs (eye lo (mid s && x) Nothing) (bodiesAt t zs))
           ≡ bus Q (Two s (suc j)) p d h hs (eye lo (mid s && x) Nothing) (bodiesAt (suc t) zs)
       held-tick j h l =
-          one (Two s j) p d (suc h) hs (eye lo (mid s && x) Nothing) (bodiesAt t zs) (lo ∥ (mid s && x)) (lines-two s x f p j (suc h) _ ∙ ap₂ (λ q y. q ∥ (mid s && y)) (some-left h) up-x) (clear-held s x f p j l)
+          one (Two s j) p d (suc h) hs (eye lo (mid s && x) Nothing) (bodiesAt t zs) (lo ∥ (mid s && x))
+          (lines-two s x f p j (suc h) _ ∙ ap₂ (λ q y. q ∥ (mid s && y)) (some-left h) up-x) (clear-held s x f p j l)
           ∙ ap₂ (λ m bs. bus Q (Two s (suc j)) p d m hs (eye lo (mid s && x) Nothing) bs) (one-off h) (quiet-tick asked t zs)
 
       -- and its last tick: SCL rises, and the chips note SDA
@@ -112,9 +113,12 @@ module _ (Q : Plan) (asked : ℕ) where
       pub three-tick : tick Q asked (bus Q (Three s (mid s && x)) p d 0 hs (eye hi (mid s && x) (Level (mid s && x))) (bodiesAt t zs))
           ≡ atStart Q (late s) (Q .next d (late s && x)) hs (eye hi (late s && x) (kept s (late s && x))) (map (bodyTick asked (told s)) (bodiesAt t zs))
       three-tick =
-          one (Three s (mid s && x)) p d 0 hs (eye hi (mid s && x) (Level (mid s && x))) (bodiesAt t zs) (hi ∥ (late s && x)) (lines-three s x f p (mid s && x) 0 _ ∙ ap (λ y. hi ∥ (late s && y)) up-x) (clear-three s x f p)
-          ∙ ap (λ (r : Row). atStart Q (r .three .sda) (Q .next d (late s && x)) hs (eyeAfter seen (hi ∥ (late s && x))) (map (bodyTick asked (eventOf seen (hi ∥ (late s && x)))) (bodiesAt t zs))) (clocked-row s x f p)
-          ∙ ap₂ (λ (n : Noted) (v : Event). atStart Q (late s) (Q .next d (late s && x)) hs (eye hi (late s && x) n) (map (bodyTick asked v) (bodiesAt t zs))) (kept-is s x f) (told-is s x f (Level (mid s && x)))
+          one (Three s (mid s && x)) p d 0 hs (eye hi (mid s && x) (Level (mid s && x))) (bodiesAt t zs) (hi ∥ (late s && x))
+          (lines-three s x f p (mid s && x) 0 _ ∙ ap (λ y. hi ∥ (late s && y)) up-x) (clear-three s x f p)
+          ∙ ap (λ (r : Row). atStart Q (r .three .sda) (Q .next d (late s && x)) hs (eyeAfter seen (hi ∥ (late s && x))) (map (bodyTick asked (eventOf seen (hi ∥ (late s && x)))) (bodiesAt t zs)))
+          (clocked-row s x f p)
+          ∙ ap₂ (λ (n : Noted) (v : Event). atStart Q (late s) (Q .next d (late s && x)) hs (eye hi (late s && x) n) (map (bodyTick asked v) (bodiesAt t zs)))
+          (kept-is s x f) (told-is s x f (Level (mid s && x)))
         where
           seen : Eye
           seen = eye hi (mid s && x) (Level (mid s && x))
