@@ -15,6 +15,7 @@ use Rattle.orders.specs.Results.{areaOf, slotsOf, slotted, batches, checkOf, li
 use Rattle.eeprom.specs.States.{mostBusy}
 use Rattle.board.specs.Marks.{chipCount, memoryAt, bodies}
 use Rattle.board.specs.Desk.{statesRight, busNumber}
+use Rattle.agreement.specs.Inputs.{Input, number, listed, Accepted}
 use Rattle.agreement.proofs.Standing.{Small}
 use Rattle.agreement.proofs.Messages.{Sendable}
 use Rattle.agreement.proofs.Lists.{Sendables, Runnables}
@@ -38,19 +39,20 @@ none-given zero false false false true e h = absurd (omega arith)
 none-given zero false false false false true h = absurd (omega arith)
 none-given zero false false false false false h = record { one-two = refl; three = refl; four = refl; five = refl; six = refl; seven = refl }
 
-module _ (list : List ℕ) (marks : ℕ) (memory states holds : List ℕ) (asked : ℕ) (results : List ℕ) where
+module _ (i : Input) where
   -- number 0 says that none of the tests fires
-  pub accepted : busNumber list marks memory states holds asked results ≡ 0
-      → None (listNumber (checkOf list)) (not (eqb (length memory) (memoryAt marks 8) && eqb (length states) (4 * chipCount marks)))
-      (not (statesRight (bodies marks memory states))) (not (allWithin mostHeld holds)) (ltb mostBusy asked) (ltb (length results) (areaOf (transactionsOf list)))
+  pub none-fires : number i ≡ 0
+      → None (listNumber (checkOf (i .list))) (not (eqb (length (i .memory)) (memoryAt (i .marks) 8) && eqb (length (i .states)) (4 * chipCount (i .marks))))
+      (not (statesRight (bodies (i .marks) (i .memory) (i .states)))) (not (allWithin mostHeld (i .holds))) (ltb mostBusy (i .asked))
+      (ltb (length (i .results)) (areaOf (listed i)))
   unfolding busNumber
-  accepted e = none-given _ _ _ _ _ _ e
+  none-fires e = none-given _ _ _ _ _ _ e
 
-  pub holds-small : busNumber list marks memory states holds asked results ≡ 0 → Small holds
-  holds-small e = not-false (allWithin mostHeld holds) (accepted e .five)
+  pub holds-small : Accepted i → Small (i .holds)
+  holds-small a = not-false (allWithin mostHeld (i .holds)) (none-fires (a .by-number) .five)
 
-  pub area-fits : busNumber list marks memory states holds asked results ≡ 0 → areaOf (transactionsOf list) ≤ length results
-  area-fits e = ltb-false _ _ (accepted e .seven)
+  pub area-fits : Accepted i → areaOf (listed i) ≤ length (i .results)
+  area-fits a = ltb-false _ _ (none-fires (a .by-number) .seven)
 
 -- a right message can be sent
 sendable : (m : Message) → Right m → Sendable m

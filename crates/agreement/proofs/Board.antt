@@ -13,9 +13,10 @@ use Rattle.eeprom.specs.Stages.{Body}
 use Rattle.eeprom.specs.declared.Stage.the-variants.{Deaf}
 use Rattle.board.specs.Marks.{modelAt, memoryAt, bodyAt, bodiesFrom, bodies}
 use Rattle.reading.specs.Read.{cellOf}
+use Rattle.agreement.specs.Inputs.{Bytes}
 use Rattle.agreement.proofs.Time.{bodiesAt}
 use Rattle.agreement.proofs.Tuned.{wake}
-use Rattle.agreement.proofs.Good.{Bytes, Absent, Distinct, Filled, Good}
+use Rattle.agreement.proofs.Good.{Absent, Distinct, Filled, Good}
 use Rattle.agreement.proofs.Right.{bytes-drop, bytes-take}
 
 -- no chip is addressed

@@ -1,22 +1,21 @@
 -- The run of an accepted input: its last bus is the plain reading's, it ends after exactly the plain reading's ticks, and it does not depend on the number
 -- that bounds it. Assumes nothing.
 use Prim.Native.Nat.{ℕ, _≤_, _<_}
-use mathlib.Core.Path.{_≡_, ap, _∙_, subst}
-use mathlib.Core.Bool.{true, false}
-use mathlib.Core.List.{List}
+use mathlib.Core.Path.{_≡_, ap, sym, _∙_, subst}
+use mathlib.Core.List.{map}
 use native.Mathlib.Nat.{zero-add}
-use Rattle.orders.specs.Form.{transactionsOf}
-use Rattle.orders.specs.Results.{startArea, batches}
+use borrow.Author.Tests.{eq-eqb}
+use Rattle.orders.specs.Results.{startArea}
 use Rattle.controller.specs.Symbols.{isOver}
 use Rattle.controller.specs.Plan.{State, orders}
 use Rattle.controller.specs.Bound.{mostTicks}
 use Rattle.board.specs.Marks.{bodies}
-use Rattle.board.specs.Desk.{busNumber}
-use Rattle.bus.specs.Wires.{Bus, after, run}
-use Rattle.bus.specs.Run.{start}
+use Rattle.board.specs.Desk.{Outcome, ran}
+use Rattle.bus.specs.Wires.{Bus, Ran, after, run}
 use Rattle.reading.specs.Plain.{World}
-use Rattle.reading.specs.Read.{plain}
-use Rattle.agreement.proofs.Good.{Bytes}
+use Rattle.reading.specs.Read.{cellOf, bodyOf, plain, plainRun}
+use Rattle.agreement.specs.Inputs.{Input, listed, batched, begin, whole, answer, Accepted}
+use Rattle.agreement.specs.Outcomes.{Ends}
 use Rattle.agreement.proofs.Right.{transactions-right}
 use Rattle.agreement.proofs.Board.{good-board, board-asleep}
 use Rattle.agreement.proofs.Runs.{linesFor, run-is}
@@ -24,44 +23,62 @@ use Rattle.agreement.proofs.Agree.{final, Agrees, agree}
 use Rattle.agreement.proofs.Bounds.{list-bound}
 use Rattle.agreement.proofs.Accepted.{holds-small, runnables}
 
-module _ (list : List ℕ) (marks : ℕ) (memory states holds : List ℕ) (asked : ℕ) (results : List ℕ) where
-  -- before the first tick; the plain reading; its ticks
-  abbrev pub begin : Bus State
-  begin = start list marks memory states holds results
+module _ (i : Input) where
+  -- the plain reading, before and after
+  abbrev pub opening : World
+  opening =
+      record {
+        clock = record { now = 0; holds = i .holds };
+        cells = map cellOf (bodies (i .marks) (i .memory) (i .states));
+        log = record { area = startArea (listed i) (i .results) };
+      }
 
   abbrev pub read : World
-  read = plain list marks memory states holds asked results
+  read = plain (i .list) (i .marks) (i .memory) (i .states) (i .holds) (i .asked) (i .results)
 
   abbrev pub ticks : ℕ
   ticks = read .clock .now
 
-  module _ (e : busNumber list marks memory states holds asked results ≡ 0) (bytes : Bytes list) (filled : Bytes memory) where
-    pub agrees : Agrees asked begin read
-    unfolding plain
-    agrees =
-        agree asked (batches 0 (transactionsOf list)) (record { area = startArea (transactionsOf list) results }) holds (bodies marks memory states)
-        (runnables 0 (transactionsOf list) (transactions-right list bytes)) (holds-small list marks memory states holds asked results e)
-        (board-asleep marks memory states) (good-board marks memory states filled)
+  -- its answer
+  abbrev pub told : Outcome
+  told = ran ticks (map (bodyOf ticks) (read .cells)) (read .log .area)
 
-    -- the controller is at its end after the plain reading's ticks, and at no tick before
-    pub over-at-last : isOver (after orders asked ticks begin .control .phase) ≡ true
-    over-at-last = ap (λ (b : Bus State). isOver (b .control .phase)) (agrees .last)
+module _ (i : Input) (a : Accepted i) where
+  pub answer-is : answer i ≡ told i
+  unfolding plainRun
+  answer-is = rw (eq-eqb _ 0 (a .by-number))
 
-    pub not-over-before : (n : ℕ) → n < ticks → isOver (after orders asked n begin .control .phase) ≡ false
-    not-over-before n l = agrees .clean n l .live
+  pub same-ticks : answer i .answer .ticks ≡ ticks i
+  same-ticks = ap (λ (o : Outcome). o .answer .ticks) answer-is
 
-    -- any number of ticks that is large enough gives the same run
-    pub run-from : (most : ℕ) → ticks ≤ most → run orders asked most begin ≡ record { last = final read; row = linesFor orders asked ticks begin }
-    run-from most l =
-        run-is orders asked ticks most begin l over-at-last not-over-before
-        ∙ ap (λ (b : Bus State). record { last = b; row = linesFor orders asked ticks begin }) (agrees .last)
+  pub agrees : Agrees (i .asked) (begin i) (read i)
+  unfolding plain
+  agrees =
+      agree (i .asked) (batched i) (opening i .log) (i .holds) (bodies (i .marks) (i .memory) (i .states)) (runnables 0 (listed i) (transactions-right (i .list) (a .list-bytes)))
+      (holds-small i a) (board-asleep (i .marks) (i .memory) (i .states)) (good-board (i .marks) (i .memory) (i .states) (a .memory-bytes))
 
-    -- the list's own bound is
-    pub ticks-within : ticks ≤ mostTicks (transactionsOf list)
-    unfolding plain
-    ticks-within =
-        subst (λ (n : ℕ). ticks ≤ n) (zero-add (mostTicks (transactionsOf list)))
-        (list-bound asked (transactionsOf list) 0 _ (transactions-right list bytes) (holds-small list marks memory states holds asked results e))
+  -- any number of ticks that is large enough gives this run
+  abbrev pub ranOut : Ran orders (i .asked)
+  ranOut = record { last = final (read i); row = linesFor orders (i .asked) (ticks i) (begin i) }
 
-    pub run-by-bound : run orders asked (mostTicks (transactionsOf list)) begin ≡ record { last = final read; row = linesFor orders asked ticks begin }
-    run-by-bound = run-from (mostTicks (transactionsOf list)) ticks-within
+  run-from : (most : ℕ) → ticks i ≤ most → run orders (i .asked) most (begin i) ≡ ranOut
+  run-from most l =
+      run-is orders (i .asked) (ticks i) most (begin i) l (ap (λ (b : Bus State). isOver (b .control .phase)) (agrees .last)) (λ n h. agrees .clean n h .live)
+      ∙ ap (λ (b : Bus State). record { last = b; row = linesFor orders (i .asked) (ticks i) (begin i) }) (agrees .last)
+
+  ticks-within : ticks i ≤ mostTicks (listed i)
+  unfolding plain
+  ticks-within =
+      subst (λ (n : ℕ). ticks i ≤ n) (zero-add (mostTicks (listed i))) (list-bound (i .asked) (listed i) 0 (opening i) (transactions-right (i .list) (a .list-bytes)) (holds-small i a))
+
+  pub whole-is : whole i ≡ ranOut
+  whole-is = run-from (mostTicks (listed i)) ticks-within
+
+  pub ends : Ends i
+  ends =
+      record {
+        over = ap (λ (n : ℕ). isOver (after orders (i .asked) n (begin i) .control .phase)) same-ticks ∙ ap (λ (b : Bus State). isOver (b .control .phase)) (agrees .last);
+        not-before = λ n l. agrees .clean n (subst (λ (t : ℕ). n < t) same-ticks l) .live;
+        same = λ most l. run-from most (subst (λ (t : ℕ). t ≤ most) same-ticks l) ∙ sym whole-is;
+        within = subst (λ (t : ℕ). t ≤ mostTicks (listed i)) (sym same-ticks) ticks-within;
+      }

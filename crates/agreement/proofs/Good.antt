@@ -17,12 +17,8 @@ use Rattle.eeprom.specs.Keeping.{Kept, geo, takesAt, takes, byteNow, steps, sta
 use Rattle.eeprom.specs.declared.Store.{Store}
 use Rattle.reading.specs.Clock.{symbol}
 use Rattle.reading.specs.Plain.{Cell, World, listens, anyOf, does, only, valueOf, stores, writesAll, readsAll, carried, listening, answered, addressed, messageIf, message, started, messages}
+use Rattle.agreement.specs.Inputs.{Bytes}
 use Rattle.agreement.proofs.Tuned.{Lone}
-
--- every element is a byte
-abbrev pub Bytes : List ℕ → Type 0
-Bytes [] = Unit {0}
-Bytes (x ∷ xs) = (x < 256) × Bytes xs
 
 pub byte-at : (m : List ℕ) (i : ℕ) → Bytes m → getD m i 0 < 256
 byte-at [] zero h = omega arith

@@ -16,13 +16,14 @@ use Rattle.eeprom.specs.Stages.{sdaOf}
 use Rattle.eeprom.specs.declared.Stage.the-variants.{Deaf, Naming, Taking, Asking}
 use Rattle.reading.specs.Clock.{Clock, symbol, symbols}
 use Rattle.reading.specs.Plain.{Cell, World, listens, anyOf, does, only, valueOf, writesAll, readsAll, carried, answered, messageIf, message}
+use Rattle.agreement.specs.Inputs.{Bytes}
 use Rattle.agreement.specs.Between.{between}
 use Rattle.agreement.proofs.Time.{Timed, up}
 use Rattle.agreement.proofs.Interface.{Watch}
 use Rattle.agreement.proofs.Bits.{whole}
 use Rattle.agreement.proofs.Tuned.{wake, tuned, up-tuned, up-none, Lone, sending, any-only}
 use Rattle.agreement.proofs.Bytes.{namedBy, begun, took, wentOn, Has, address-bits, address-ninth, write-bits, write-ninth, read-bits, read-ninth}
-use Rattle.agreement.proofs.Good.{Good, Bytes, lone, value-small, tame-takes, tame-steps, good-only, listens-same}
+use Rattle.agreement.proofs.Good.{Good, lone, value-small, tame-takes, tame-steps, good-only, listens-same}
 use Rattle.agreement.proofs.Quotas.{follow-remain}
 
 -- the chip without its stage

@@ -13,7 +13,7 @@ use Rattle.orders.specs.Form.{Message, Transaction, Read, whole, broken, breaks
 use Rattle.orders.specs.Bytes.{RightMessage}
 use Rattle.orders.specs.declared.Rule.{Rule}
 use Rattle.orders.specs.declared.Rule.the-variants.{Count, Address, Kind, Length}
-use Rattle.agreement.proofs.Good.{Bytes}
+use Rattle.agreement.specs.Inputs.{Bytes}
 
 pub record Right (m : Message) : Type 0 where
   pub form : RightMessage m

@@ -1,3 +1,4 @@
+pub mod Inputs
 pub mod Between
 pub mod Course
 pub mod Sums
