@@ -10,7 +10,7 @@ use lib.ListN.{length}
 use Rattle.lines.specs.Levels.{mostHeld}
 use Rattle.lines.specs.Records.{no, _then_, allWithin}
 use Rattle.orders.specs.Kinds.{addressRight}
-use Rattle.orders.specs.Form.{Message, Transaction, transactionsOf}
+use Rattle.orders.specs.Form.{Message, Transaction}
 use Rattle.orders.specs.Results.{areaOf, slotsOf, slotted, batches, checkOf, listNumber}
 use Rattle.eeprom.specs.States.{mostBusy}
 use Rattle.board.specs.Marks.{chipCount, memoryAt, bodies}

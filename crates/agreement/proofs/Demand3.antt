@@ -1,16 +1,14 @@
 -- Demand 3, over the entries' own definitions: the run over the two wires and the plain reading give the same answer, for all input; no fault occurs; the
 -- trace holds the lines. Assumes nothing.
-use Prim.Native.Nat.{ℕ, _+_, _≤_, _<_}
+use Prim.Native.Nat.{ℕ, _≤_, _<_}
 use mathlib.Core.Path.{_≡_, refl, ap, sym, _∙_, subst}
 use mathlib.Core.Bool.{Bool, true, false, cond}
 use mathlib.Core.List.{List, map}
-use native.Mathlib.Nat.{zero-add}
 use borrow.Author.Tests.{eqb-true, eq-eqb}
 use lib.Dec.{eqb}
 use lib.ListN.{length, getD}
 use Rattle.lines.specs.Levels.{byteOf}
 use Rattle.lines.specs.Records.{over}
-use Rattle.orders.specs.Results.{areaOf}
 use Rattle.controller.specs.Plan.{orders}
 use Rattle.board.specs.Desk.{Outcome, ran, refusal}
 use Rattle.bus.specs.Wires.{Ran, linesOn, after}
@@ -19,13 +17,11 @@ use Rattle.reading.specs.Read.{bodyOf, plain, plainRun}
 use Rattle.agreement.specs.Inputs.{Bytes, Input, number, listed, batched, begin, whole, answer, Accepted}
 use Rattle.agreement.specs.Outcomes.{AllClosed, NoFault}
 use Rattle.agreement.proofs.Right.{transactions-right}
-use Rattle.agreement.proofs.Runs.{linesFor, length-lines, line-at}
+use Rattle.agreement.proofs.Runs.{length-lines, line-at}
 use Rattle.agreement.proofs.Agree.{final-lines}
 use Rattle.agreement.proofs.Totals.{list-closed}
-use Rattle.agreement.proofs.Area.{length-start}
-use Rattle.agreement.proofs.Accepted.{area-fits}
 use Rattle.agreement.proofs.Overwritten.{over-at, over-past, over-length}
-use Rattle.agreement.proofs.Ending.{opening, read, ticks, told, answer-is, same-ticks, agrees, ranOut, whole-is}
+use Rattle.agreement.proofs.Ending.{opening, read, ticks, told, answer-is, area-room, same-ticks, agrees, whole-is}
 
 -- what the whole-bus run makes of a run, of an accepted input and of any other
 abbrev toldBy : (i : Input) → Ran orders (i .asked) → Outcome
@@ -48,6 +44,7 @@ wires-and-plain-agree list marks memory states holds asked results trace b m = g
   where
     i : Input
     i = record { list = list; marks = marks; memory = memory; states = states; holds = holds; asked = asked; results = results }
+
     go : (q : Bool) → eqb (number i) 0 ≡ q → cond q (done i trace) (stays i trace) .outcome ≡ cond q (told i) (refusal (number i) memory states results)
     go true e = told-the-same i (record { by-number = eqb-true (number i) 0 e; list-bytes = b; memory-bytes = m })
     go false e = refl
@@ -61,13 +58,8 @@ module _ (i : Input) (a : Accepted i) where
         let-go = ap (λ (r : Ran orders (i .asked)). linesOn orders (i .asked) (r .last)) (whole-is i a) ∙ final-lines (i .asked) (read i);
         clear = λ n l. agrees i a .clean n (subst (λ (t : ℕ). n < t) (same-ticks i a) l) .clear;
         outcomes = subst (λ (o : Outcome). AllClosed (o .results) (batched i)) (sym (answer-is i a))
-            (list-closed (i .asked) (listed i) 0 (opening i) (transactions-right (i .list) (a .list-bytes)) fits);
+            (list-closed (i .asked) (listed i) 0 (opening i) (transactions-right (i .list) (a .list-bytes)) (area-room i a));
       }
-    where
-      fits : 0 + areaOf (listed i) ≤ length (opening i .log .area)
-      fits =
-          subst (λ (n : ℕ). n ≤ length (opening i .log .area)) (sym (zero-add (areaOf (listed i))))
-          (subst (λ (n : ℕ). areaOf (listed i) ≤ n) (sym (length-start (listed i) (i .results) (area-fits i a))) (area-fits i a))
 
   -- the run's row: the lines of every tick, a byte a tick
   pub row-length : length (whole i .row) ≡ answer i .answer .ticks

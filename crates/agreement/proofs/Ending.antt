@@ -1,11 +1,12 @@
 -- The run of an accepted input: its last bus is the plain reading's, it ends after exactly the plain reading's ticks, and it does not depend on the number
 -- that bounds it. Assumes nothing.
-use Prim.Native.Nat.{ℕ, _≤_, _<_}
+use Prim.Native.Nat.{ℕ, _+_, _≤_, _<_}
 use mathlib.Core.Path.{_≡_, ap, sym, _∙_, subst}
 use mathlib.Core.List.{map}
 use native.Mathlib.Nat.{zero-add}
 use borrow.Author.Tests.{eq-eqb}
-use Rattle.orders.specs.Results.{startArea}
+use lib.ListN.{length}
+use Rattle.orders.specs.Results.{areaOf, startArea}
 use Rattle.controller.specs.Symbols.{isOver}
 use Rattle.controller.specs.Plan.{State, orders}
 use Rattle.controller.specs.Bound.{mostTicks}
@@ -20,8 +21,9 @@ use Rattle.agreement.proofs.Right.{transactions-right}
 use Rattle.agreement.proofs.Board.{good-board, board-asleep}
 use Rattle.agreement.proofs.Runs.{linesFor, run-is}
 use Rattle.agreement.proofs.Agree.{final, Agrees, agree}
+use Rattle.agreement.proofs.Area.{length-start}
 use Rattle.agreement.proofs.Bounds.{list-bound}
-use Rattle.agreement.proofs.Accepted.{holds-small, runnables}
+use Rattle.agreement.proofs.Accepted.{holds-small, area-fits, runnables}
 
 module _ (i : Input) where
   -- the plain reading, before and after
@@ -50,6 +52,12 @@ module _ (i : Input) (a : Accepted i) where
 
   pub same-ticks : answer i .answer .ticks ≡ ticks i
   same-ticks = ap (λ (o : Outcome). o .answer .ticks) answer-is
+
+  -- the result area has room for the list's results
+  pub area-room : 0 + areaOf (listed i) ≤ length (opening i .log .area)
+  area-room =
+      subst (λ (n : ℕ). n ≤ length (opening i .log .area)) (sym (zero-add (areaOf (listed i))))
+      (subst (λ (n : ℕ). areaOf (listed i) ≤ n) (sym (length-start (listed i) (i .results) (area-fits i a))) (area-fits i a))
 
   pub agrees : Agrees (i .asked) (begin i) (read i)
   unfolding plain

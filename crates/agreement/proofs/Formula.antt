@@ -4,7 +4,7 @@ use mathlib.Core.Path.{_≡_, ap, sym, _∙_, subst}
 use mathlib.Core.List.{List, [], _∷_, _++_, append-assoc}
 use native.Mathlib.Omega.{arith}
 use native.Mathlib.Nat.{zero-add}
-use lib.ListN.{length, getD, drop}
+use lib.ListN.{length, getD}
 use Rattle.lines.specs.Levels.{mostHeld}
 use Rattle.orders.specs.Form.{Transaction}
 use Rattle.orders.specs.Results.{Batch, areaOf, batches}
@@ -26,10 +26,10 @@ use Rattle.agreement.proofs.Board.{good-board, board-asleep}
 use Rattle.agreement.proofs.Agree.{first, rests}
 use Rattle.agreement.proofs.Tally.{ticks-bound}
 use Rattle.agreement.proofs.Totals.{Ready, list-frame, list-ticks}
-use Rattle.agreement.proofs.Area.{length-start, start-ready}
+use Rattle.agreement.proofs.Area.{start-ready}
 use Rattle.agreement.proofs.Bounds.{small-drop}
-use Rattle.agreement.proofs.Accepted.{holds-small, area-fits, runnables}
-use Rattle.agreement.proofs.Ending.{opening, answer-is}
+use Rattle.agreement.proofs.Accepted.{holds-small, runnables}
+use Rattle.agreement.proofs.Ending.{opening, answer-is, area-room}
 use Rattle.agreement.proofs.Splits.{right-before, right-after, ready-before, area-append, batches-append, transactions-append, ticks-alike, ticks-one-more, area-one, last-batch}
 
 bounded : (wait : ℕ) (s : Sum) (hs : List ℕ) → Small hs → ticksOf wait s hs ≤ wait + (20 * clockedIn s + 4)
@@ -43,15 +43,12 @@ module _ (i : Input) (a : Accepted i) where
   rights : RightAll (listed i)
   rights = transactions-right (i .list) (a .list-bytes)
 
-  long : areaOf (listed i) ≤ length (opening i .log .area)
-  long = subst (λ (n : ℕ). areaOf (listed i) ≤ n) (sym (length-start (listed i) (i .results) (area-fits i a))) (area-fits i a)
-
   -- the whole run
   pub ticks-by-formula : answer i .answer .ticks ≡ ticksAll (answer i .results) (i .holds) (batched i)
   unfolding plain
   ticks-by-formula =
       subst (λ (o : Outcome). o .answer .ticks ≡ ticksAll (o .results) (i .holds) (batched i)) (sym (answer-is i a))
-      (list-ticks (i .asked) (listed i) 0 (opening i) rights (start-ready (listed i) (i .results)) (subst (λ (n : ℕ). n ≤ length (opening i .log .area)) (sym (zero-add (areaOf (listed i)))) long)
+      (list-ticks (i .asked) (listed i) 0 (opening i) rights (start-ready (listed i) (i .results)) (area-room i a)
       ∙ zero-add (ticksAll (transactions (i .asked) (batched i) (opening i) .log .area) (i .holds) (batched i)))
 
   -- the list in two parts
@@ -69,19 +66,20 @@ module _ (i : Input) (a : Accepted i) where
     unfolding plain
     results-are =
         ap (λ (o : Outcome). o .results) (answer-is i a)
-        ∙ ap (λ (w : World). w .log .area) (ap (λ (bs : List Batch). transactions (i .asked) bs (opening i)) parts ∙ transactions-append (i .asked) (batches 0 before) (batches (areaOf before) later) (opening i))
+        ∙ ap (λ (bs : List Batch). transactions (i .asked) bs (opening i) .log .area) parts
+        ∙ ap (λ (w : World). w .log .area) (transactions-append (i .asked) (batches 0 before) (batches (areaOf before) later) (opening i))
 
-    fits : 0 + areaOf before ≤ length (opening i .log .area)
-    fits = some (areaOf before) (areaOf later) (subst (λ (n : ℕ). n ≤ length (opening i .log .area)) (ap areaOf q ∙ area-append before later) long)
+    first-fits : 0 + areaOf before ≤ length (opening i .log .area)
+    first-fits = some (areaOf before) (areaOf later) (subst (λ (n : ℕ). 0 + n ≤ length (opening i .log .area)) (ap areaOf q ∙ area-append before later) (area-room i a))
       where
-        some : (x y : ℕ) → x + y ≤ length (opening i .log .area) → 0 + x ≤ length (opening i .log .area)
+        some : (x y : ℕ) → 0 + (x + y) ≤ length (opening i .log .area) → 0 + x ≤ length (opening i .log .area)
         some x y l = omega arith
 
     -- the first part takes its ticks, each transaction by the formula
     time-between : between .clock .now ≡ ticksAll (answer i .results) (i .holds) (batches 0 before)
     time-between =
         list-ticks (i .asked) before 0 (opening i) (right-before before later split)
-        (ready-before before later 0 (opening i .log .area) (subst (λ (ts : List Transaction). Ready 0 ts (opening i .log .area)) q (start-ready (listed i) (i .results)))) fits
+        (ready-before before later 0 (opening i .log .area) (subst (λ (ts : List Transaction). Ready 0 ts (opening i .log .area)) q (start-ready (listed i) (i .results)))) first-fits
         ∙ zero-add (ticksAll (between .log .area) (i .holds) (batches 0 before))
         ∙ sym (ticks-alike before 0 (between .log .area) (answer i .results) (i .holds)
         (λ k l r. ap (λ (x : List ℕ). getD x k 0) results-are
@@ -118,6 +116,7 @@ module _ (i : Input) (a : Accepted i) where
     where
       wider : areaOf (before ++ (t ∷ [])) ≡ areaOf before + sizeOf t
       wider = area-append before (t ∷ []) ∙ ap (λ (n : ℕ). areaOf before + n) (area-one t)
+
       longer : ticksAll (answer i .results) (i .holds) (batches 0 (before ++ (t ∷ [])))
           ≡ beginAt (i .asked) (begin i) (answer i .results) (i .holds) before later t + taken (i .asked) (begin i) (answer i .results) (i .holds) before later t
       longer = ap (ticksAll (answer i .results) (i .holds)) (last-batch before t) ∙ ticks-one-more (answer i .results) (i .holds) (batches 0 before) (batchAt (areaOf before) t)

@@ -96,6 +96,7 @@ module _ (s : List ℕ) (small : Bytes s) where
     where
       rest : Parsed
       rest = after (messageAt s (p + 3)) (λ m q. andTransaction (waitAt s p) m (go (getD s p 0 - 1) q))
+
       tests : (a b c : Bool) → ParsedRight (cond a (cond b (cond c rest (wrong (cut s))) (wrong (breaks p Count))) (right [] []))
       tests true true true = after-right (messageAt s (p + 3)) _ (message-right (p + 3)) (λ m q k. and-transaction (waitAt s p) m (go (getD s p 0 - 1) q) k (h _ q))
       tests true true false = tt

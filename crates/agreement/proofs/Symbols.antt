@@ -114,10 +114,13 @@ module _ (Q : Plan) (asked : ℕ) (c : Setting (Q .State)) (i : Sound Q c) where
     where
       num : (j : ℕ) → 2 + suc j ≡ suc (2 + j)
       num j = omega arith
+
       less : (h j : ℕ) → suc j ≤ h → h - j ≡ suc (h - suc j)
       less h j l = omega arith
+
       few : (h j : ℕ) → suc j ≤ h → h ≤ mostHeld → j < mostHeld
       few h j l m = omega arith
+
       on : (t j : ℕ) → suc (t + (2 + j)) ≡ t + (2 + suc j)
       on t j = omega arith
 
@@ -130,6 +133,7 @@ module _ (Q : Plan) (asked : ℕ) (c : Setting (Q .State)) (i : Sound Q c) where
     where
       num : (h : ℕ) → 3 + h ≡ suc (2 + h)
       num h = omega arith
+
       on : (t h : ℕ) → suc (t + (2 + h)) ≡ t + (3 + h)
       on t h = omega arith
 
