@@ -19,7 +19,7 @@ use Rattle.reading.specs.Read.{plain}
 use Rattle.agreement.specs.Inputs.{Input, listed, batched, begin, answer, Accepted}
 use Rattle.agreement.specs.Course.{batchAt, sizeOf}
 use Rattle.agreement.specs.Sums.{Sum, clockedIn, ticksOf, ticksAll, clockedAll}
-use Rattle.agreement.specs.Takes.{Begins, begin as beginAt, taken, Takes}
+use Rattle.agreement.specs.Takes.{Begins, beginsAt, taken, Takes}
 use Rattle.agreement.proofs.Standing.{Small}
 use Rattle.agreement.proofs.Right.{RightAll, transactions-right}
 use Rattle.agreement.proofs.Board.{good-board, board-asleep}
@@ -118,5 +118,5 @@ module _ (i : Input) (a : Accepted i) where
       wider = area-append before (t ∷ []) ∙ ap (λ (n : ℕ). areaOf before + n) (area-one t)
 
       longer : ticksAll (answer i .results) (i .holds) (batches 0 (before ++ (t ∷ [])))
-          ≡ beginAt (i .asked) (begin i) (answer i .results) (i .holds) before later t + taken (i .asked) (begin i) (answer i .results) (i .holds) before later t
+          ≡ beginsAt (i .asked) (begin i) (answer i .results) (i .holds) before later t + taken (i .asked) (begin i) (answer i .results) (i .holds) before later t
       longer = ap (ticksAll (answer i .results) (i .holds)) (last-batch before t) ∙ ticks-one-more (answer i .results) (i .holds) (batches 0 before) (batchAt (areaOf before) t)

@@ -17,7 +17,7 @@ pub record Sum : Type 0 where
 abbrev pub flagged : (area : List ℕ) → Slotted → Bool
 flagged a m = eqb (getD a (m .slot) 0) 1
 
--- the address byte, and the data bytes that were counted
+-- the address byte, and the data bytes that were counted: a chip acknowledges every byte written to it, so none goes by uncounted
 abbrev pub bytesBy : (area : List ℕ) → Slotted → ℕ
 bytesBy a m = 1 + getD a (m .slot + 1) 0
 

@@ -21,8 +21,8 @@ pub record Begins (b : Bus State) (ts : List Batch) : Type 0 where
 -- b is the bus before the first tick; `area` holds the results, `holds` the hold list; the transactions `before` this one and `later` than it
 module _ (asked : ℕ) (b : Bus State) (area holds : List ℕ) (before later : List Transaction) (t : Transaction) where
   -- the tick at which it begins
-  abbrev pub begin : ℕ
-  begin = ticksAll area holds (batches 0 before)
+  abbrev pub beginsAt : ℕ
+  beginsAt = ticksAll area holds (batches 0 before)
 
   -- m and L
   abbrev pub sent : Sum
@@ -33,6 +33,6 @@ module _ (asked : ℕ) (b : Bus State) (area holds : List ℕ) (before later : L
   taken = ticksOf (t .wait) sent (drop (clockedAll area (batches 0 before)) holds)
 
   pub record Takes : Type 0 where
-    pub begins : Begins (after orders asked begin b) (batches (areaOf before) (t ∷ later))
-    pub ends : Begins (after orders asked (begin + taken) b) (batches (areaOf before + sizeOf t) later)
+    pub begins : Begins (after orders asked beginsAt b) (batches (areaOf before) (t ∷ later))
+    pub ends : Begins (after orders asked (beginsAt + taken) b) (batches (areaOf before + sizeOf t) later)
     pub never-over : taken ≤ t .wait + (20 * clockedIn sent + 4)
