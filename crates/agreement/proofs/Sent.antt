@@ -41,15 +41,15 @@ sum-alike (n ∷ ms) m s a b h =
     c = not (isCritical (m .kind))
 
     join : getD b s 0 ≡ getD a s 0 → getD b (s + 1) 0 ≡ getD a (s + 1) 0 → {x y : Sum} → x ≡ y
-        → cond (eqb (getD b s 0) 1 || c) (with (1 + getD b (s + 1) 0) x) (alone (1 + getD b (s + 1) 0))
-        ≡ cond (eqb (getD a s 0) 1 || c) (with (1 + getD a (s + 1) 0) y) (alone (1 + getD a (s + 1) 0))
+        → cond (not (eqb (getD b s 0) 0) || c) (with (1 + getD b (s + 1) 0) x) (alone (1 + getD b (s + 1) 0))
+        ≡ cond (not (eqb (getD a s 0) 0) || c) (with (1 + getD a (s + 1) 0) y) (alone (1 + getD a (s + 1) 0))
     join e f g = rw (e, f, g)
 
 -- what a message's slot says
 slot-flagged : (s n : ℕ) (q : Bool) (m : Message) (a : List ℕ) → Slot s (cond q 1 0) n a → flagged a (here s m) ≡ q
-slot-flagged s n q m a h = ap (λ (v : ℕ). eqb v 1) (h .flag) ∙ go q
+slot-flagged s n q m a h = ap (λ (v : ℕ). not (eqb v 0)) (h .flag) ∙ go q
   where
-    go : (q : Bool) → eqb (cond q 1 0) 1 ≡ q
+    go : (q : Bool) → not (eqb (cond q 1 0) 0) ≡ q
     go true = refl
     go false = refl
 

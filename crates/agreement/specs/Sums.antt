@@ -15,7 +15,7 @@ pub record Sum : Type 0 where
 
 -- was its address acknowledged?
 abbrev pub flagged : (area : List ℕ) → Slotted → Bool
-flagged a m = eqb (getD a (m .slot) 0) 1
+flagged a m = not (eqb (getD a (m .slot) 0) 0)
 
 -- the address byte, and the data bytes that were counted: a chip acknowledges every byte written to it, so none goes by uncounted
 abbrev pub bytesBy : (area : List ℕ) → Slotted → ℕ
