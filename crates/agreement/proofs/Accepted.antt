@@ -14,7 +14,7 @@ use Rattle.orders.specs.Form.{Message, Transaction}
 use Rattle.orders.specs.Results.{areaOf, slotsOf, slotted, batches, checkOf, listNumber}
 use Rattle.eeprom.specs.States.{mostBusy}
 use Rattle.board.specs.Marks.{chipCount, memoryAt, bodies}
-use Rattle.board.specs.Desk.{statesRight, busNumber}
+use Rattle.board.specs.Desk.{statesRight, boardNumber, busNumber}
 use Rattle.agreement.specs.Inputs.{Input, number, listed, Accepted}
 use Rattle.agreement.proofs.Standing.{Small}
 use Rattle.agreement.proofs.Messages.{Sendable}
@@ -30,7 +30,7 @@ pub record None (list : ℕ) (lengths states holds busy room : Bool) : Type 0 wh
   pub six : busy ≡ false
   pub seven : room ≡ false
 
-none-given : (n : ℕ) (a b c d e : Bool) → n then no 3 a then no 4 b then no 5 c then no 6 d then no 7 e ≡ 0 → None n a b c d e
+none-given : (n : ℕ) (a b c d e : Bool) → n then (no 3 a then no 4 b then no 5 c then no 6 d) then no 7 e ≡ 0 → None n a b c d e
 none-given (suc n) a b c d e h = absurd (omega arith)
 none-given zero true b c d e h = absurd (omega arith)
 none-given zero false true c d e h = absurd (omega arith)
@@ -45,7 +45,7 @@ module _ (i : Input) where
       → None (listNumber (checkOf (i .list))) (not (eqb (length (i .memory)) (memoryAt (i .marks) 8) && eqb (length (i .states)) (4 * chipCount (i .marks))))
       (not (statesRight (bodies (i .marks) (i .memory) (i .states)))) (not (allWithin mostHeld (i .holds))) (ltb mostBusy (i .asked))
       (ltb (length (i .results)) (areaOf (listed i)))
-  unfolding busNumber
+  unfolding busNumber boardNumber
   none-fires e = none-given _ _ _ _ _ _ e
 
   pub holds-small : Accepted i → Small (i .holds)

@@ -19,7 +19,7 @@ use Rattle.eeprom.specs.Keeping.{blankLatch, takes, byteNow, steps, starts, sto
 use Rattle.eeprom.specs.Stages.{due, hears, sdaOf, bodyTick}
 use Rattle.eeprom.specs.States.{mostBusy}
 use Rattle.board.specs.Marks.{bodiesFrom, memories, stateRow}
-use Rattle.board.specs.Desk.{Outcome, statesRight, busNumber}
+use Rattle.board.specs.Desk.{Outcome, statesRight, boardNumber, busNumber}
 use Rattle.bus.specs.Wires.{allUp, tick, run}
 use Rattle.bus.specs.Run.{wireRun}
 use Rattle.reading.specs.Clock.{symbol, symbols, pass}
@@ -46,9 +46,9 @@ abbrev reads : Case → Outcome
 reads c = plainRun (c .list) 1 memory (stateOf (c .pointer) (c .busy)) (c .holds) 8000 (lent c)
 
 pub over-the-wires : map wires sheet ≡ map answer sheet
-unfolding ones sheet memory changed bitAt mostHeld over allWithin mostBytes mostMessages mostLength isWrite isCritical kindRight addressRight countRight lengthRight dataOf askedOf quotaOf follow remain messageAt parse parsed transactionsOf slotsOfAll areaOf blankArea startArea slotted batches checkOf readMark note faultOf controlTick clockedOf mostTicks geometryOf pageStart pageStep readStep pointerOf blankLatch takes byteNow steps starts stored stops due hears sdaOf bodyTick mostBusy bodiesFrom memories stateRow statesRight busNumber allUp tick run wireRun
+unfolding ones sheet memory changed bitAt mostHeld over allWithin mostBytes mostMessages mostLength isWrite isCritical kindRight addressRight countRight lengthRight dataOf askedOf quotaOf follow remain messageAt parse parsed transactionsOf slotsOfAll areaOf blankArea startArea slotted batches checkOf readMark note faultOf controlTick clockedOf mostTicks geometryOf pageStart pageStep readStep pointerOf blankLatch takes byteNow steps starts stored stops due hears sdaOf bodyTick mostBusy bodiesFrom memories stateRow statesRight boardNumber busNumber allUp tick run wireRun
 over-the-wires = refl
 
 pub in-the-plain-reading : map reads sheet ≡ map answer sheet
-unfolding ones sheet memory changed bitAt mostHeld allWithin mostBytes mostMessages mostLength isWrite isCritical kindRight addressRight countRight lengthRight dataOf askedOf quotaOf follow remain messageAt parse parsed transactionsOf slotsOfAll areaOf blankArea startArea slotted batches checkOf readMark note geometryOf pageStart pageStep readStep pointerOf blankLatch takes byteNow steps starts stored stops mostBusy bodiesFrom memories stateRow statesRight busNumber symbol symbols pass writesAll readsAll messages transactions plain plainRun
+unfolding ones sheet memory changed bitAt mostHeld allWithin mostBytes mostMessages mostLength isWrite isCritical kindRight addressRight countRight lengthRight dataOf askedOf quotaOf follow remain messageAt parse parsed transactionsOf slotsOfAll areaOf blankArea startArea slotted batches checkOf readMark note geometryOf pageStart pageStep readStep pointerOf blankLatch takes byteNow steps starts stored stops mostBusy bodiesFrom memories stateRow statesRight boardNumber busNumber symbol symbols pass writesAll readsAll messages transactions plain plainRun
 in-the-plain-reading = refl
