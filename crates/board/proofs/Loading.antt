@@ -12,13 +12,13 @@ use lib.Seq.{take-suc-set, drop-drop, length-take-le}
 use Rattle.lines.specs.Levels.{digit, bitAt}
 use Rattle.eeprom.specs.Pages.{geometryOf}
 use Rattle.eeprom.specs.Keeping.{Kept, keptOf}
-use Rattle.eeprom.specs.Stages.{Body}
+use Rattle.eeprom.specs.Stages.{Body, sdaOf}
 use Rattle.eeprom.specs.States.{keptAt, wordAt}
 use Rattle.eeprom.specs.declared.Model.the-variants.{Large}
 use Rattle.eeprom.specs.declared.Stage.the-variants.{Deaf}
 use Rattle.eeprom.specs.declared.Store.{Store}
 use Rattle.board.specs.Marks.{placeOf, memoryAt, bodyAt, bodiesFrom}
-use Rattle.board.specs.Seats.{Seated, parted, sizeOf, seated, offset, bodyOf, seatAt, seatsFrom}
+use Rattle.board.specs.Seats.{Seated, parted, sizeOf, seated, offset, bodyOf, allUp, seatAt, seatsFrom}
 use Rattle.board.specs.declared.Seat.{Seat}
 use Rattle.board.proofs.Places.{place-next, all-places}
 
@@ -144,6 +144,16 @@ module _ (marks : ℕ) (memory states : List ℕ) where
       go true e h = num2 (geometryOf Large .size) (memoryAt marks s) _ _ (ap (λ (k : ℕ). k + offset (length (seats n (suc s))) (seats n (suc s))) (sym (memory-with s e)) ∙ h)
       go false e h = ap (λ (k : ℕ). k + offset (length (seats n (suc s))) (seats n (suc s))) (sym (memory-without s e)) ∙ h
 
+  deaf-up : (n s : ℕ) (m : List ℕ) → allUp (seated (length (seats n s)) (seats n s) m) ≡ true
+  unfolding seatsFrom seated allUp sdaOf
+  deaf-up zero s m = refl
+  deaf-up (suc n) s m = go (bitAt s marks) (deaf-up n (suc s))
+    where
+      go : (b : Bool) → ((l : List ℕ) → allUp (seated (length (seats n (suc s))) (seats n (suc s)) l) ≡ true)
+          → allUp (seated (length (cond b (seatAt marks states s ∷ seats n (suc s)) (seats n (suc s)))) (cond b (seatAt marks states s ∷ seats n (suc s)) (seats n (suc s))) m) ≡ true
+      go true h = h (drop (sizeOf (seatAt marks states s)) m)
+      go false h = h m
+
   module _ (xs : List Seat) (loaded : take (ones marks) xs ≡ seatsFrom marks states 8 0) (room : ones marks ≤ length xs) where
     as-many : length (seatsFrom marks states 8 0) ≡ ones marks
     as-many = sym (ap length loaded) ∙ length-take-le (ones marks) xs room
@@ -159,3 +169,8 @@ module _ (marks : ℕ) (memory states : List ℕ) where
     loaded-fits =
         sym (offset-take (ones marks) xs) ∙ ap₂ offset (sym as-many) loaded ∙ sym (zero-add (offset (length (seats 8 0)) (seats 8 0)))
         ∙ ap (λ (k : ℕ). k + offset (length (seats 8 0)) (seats 8 0)) (sym none-below) ∙ offset-from 8 0
+
+    -- all are deaf: SDA is let go
+    pub loaded-up : true ≡ allUp (seated (ones marks) xs memory)
+    loaded-up =
+        sym (deaf-up 8 0 memory) ∙ ap₂ (λ (k : ℕ) (l : List Seat). allUp (seated k l memory)) as-many (sym loaded) ∙ ap allUp (seated-take (ones marks) xs memory)

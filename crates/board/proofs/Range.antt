@@ -6,7 +6,7 @@ use native.Mathlib.Omega.{arith}
 use mathlib.Core.Path.{_≡_, refl, ap, ap₂, sym, _∙_}
 use mathlib.Core.Bool.{Bool, true, false, not, _&&_, cond}
 use mathlib.Core.List.{List}
-use borrow.Author.Tests.{eq-eqb, ne-eqb, lt-ltb, le-ltb}
+use borrow.Author.Tests.{eq-eqb, ne-eqb, eqb-true, lt-ltb, le-ltb}
 use lib.Count.{ones}
 use lib.Dec.{eqb, ltb, leb}
 use lib.ListN.{length}
@@ -124,3 +124,16 @@ module _ (marks : ℕ) (memory states holds : List ℕ) (asked : ℕ) (byte : ma
         pub right-board : not q ≡ false → asked ≤ 20000 → 0 ≡ boardNumber marks memory states holds asked
         unfolding boardNumber mostBusy
         right-board g h = rw (first, second, said true (not-false r states-good), held true (not-false q g), le-ltb 20000 asked h)
+
+-- an accepted board has the lengths that its marks ask for
+pub board-lengths : (marks : ℕ) (memory states holds : List ℕ) (asked : ℕ) → boardNumber marks memory states holds asked ≡ 0
+    → (length memory ≡ memoryAt marks 8) × (length states ≡ 4 * ones marks)
+unfolding boardNumber
+board-lengths marks memory states holds asked e = go (eqb (length memory) (memoryAt marks 8)) (eqb (length states) (4 * ones marks)) refl refl e
+  where
+    go : (a b : Bool) → eqb (length memory) (memoryAt marks 8) ≡ a → eqb (length states) (4 * ones marks) ≡ b
+        → (no 3 (not (a && b)) then no 4 (not (statesRight (bodies marks memory states))) then no 5 (not (allWithin mostHeld holds)) then no 6 (ltb mostBusy asked)) ≡ 0
+        → (length memory ≡ memoryAt marks 8) × (length states ≡ 4 * ones marks)
+    go true true p q h = (eqb-true _ _ p, eqb-true _ _ q)
+    go true false p q h = absurd (omega arith)
+    go false b p q h = absurd (omega arith)

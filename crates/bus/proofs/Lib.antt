@@ -4,3 +4,5 @@ pub mod Holds
 pub mod Turns
 pub mod Waits
 pub mod Indices
+pub mod Bounds
+pub mod Entry

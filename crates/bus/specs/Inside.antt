@@ -1,5 +1,5 @@
 -- Inside: the code's bus, with the chips' seats and the lent areas, in the words of the tick rules. No entry cites it. Assumes nothing.
-use Prim.Native.Nat.{ℕ, zero, suc, _+_, _-_}
+use Prim.Native.Nat.{ℕ, zero, suc, _+_, _≤_}
 use mathlib.Core.Path.{_≡_}
 use mathlib.Core.Bool.{Bool, true, false, _&&_, cond}
 use mathlib.Core.List.{List, map}
@@ -15,6 +15,9 @@ use Rattle.controller.specs.declared.Begin.the-variants.{First}
 use Rattle.controller.specs.declared.Symbol.the-variants.{Start}
 use Rattle.controller.specs.declared.Phase.{Phase}
 use Rattle.controller.specs.declared.Phase.the-variants.{Over, Waiting, Zero, One, Two, Three}
+use Rattle.orders.specs.Results.{checkOf}
+use Rattle.orders.specs.declared.Checked.the-variants.{Accepted}
+use Rattle.board.specs.Desk.{boardNumber}
 use Rattle.board.specs.Seats.{Seated, bodyOf}
 use Rattle.bus.specs.Holding.{Holding, holdTick}
 use Rattle.bus.specs.Wires as Wires
@@ -72,3 +75,9 @@ pub record Went (list : List ℕ) (asked : ℕ) (start : Wires.Bus Spot) (lent :
   pub last-is : last ≡ Wires.run (places list) asked limit start .last
   pub ticks-is : ticks ≡ length (Wires.run (places list) asked limit start .row)
   pub trace-is : trace ≡ over (Wires.run (places list) asked limit start .row) lent
+
+-- an input that no number refuses
+pub record Fine (list : List ℕ) (size marks : ℕ) (memory states holds : List ℕ) (asked : ℕ) (results : List ℕ) : Type 0 where
+  pub right : checkOf list ≡ Accepted size
+  pub board : boardNumber marks memory states holds asked ≡ 0
+  pub room : size ≤ length results

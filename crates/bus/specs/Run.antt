@@ -12,6 +12,7 @@ use Rattle.controller.specs.Bound.{mostTicks}
 use Rattle.controller.specs.Alone.{atFirst}
 use Rattle.board.specs.Marks.{bodies}
 use Rattle.board.specs.Desk.{Outcome, busNumber, ran, refusal}
+use Rattle.board.specs.declared.Answer.{Answer}
 use Rattle.bus.specs.Wires.{Bus, Ran, run}
 
 -- before the first tick
@@ -23,6 +24,9 @@ start list marks memory states holds results =
 pub record Traced : Type 0 where
   pub outcome : Outcome
   pub trace : List ℕ
+
+abbrev pub traced : Answer → (memory states results trace : List ℕ) → Traced
+traced r memory states results trace = record { outcome = record { answer = r; memory = memory; states = states; results = results }; trace = trace }
 
 -- the list's own bound on its ticks is never reached before the controller is at its end
 unfoldable pub wireRun : (list : List ℕ) → (marks : ℕ) → (memory states holds : List ℕ) → (asked : ℕ) → (results trace : List ℕ) → Traced

@@ -9,9 +9,15 @@ ghost use Rattle.controller.specs.Cursor.{controlOf, places};
 ghost use Rattle.controller.specs.Ticks.{controlTick};
 ghost use Rattle.board.specs.Seats.{seated, offset, allUp};
 ghost use Rattle.bus.specs.Holding.{holdTick};
-ghost use Rattle.bus.specs.Inside.{holdingOf, busLines, busSees, phaseRest, restOf, restedOf, filled, busOn, Went};
+ghost use Rattle.bus.specs.Inside.{holdingOf, busLines, busSees, phaseRest, restOf, restedOf, filled, busOn, Went, Fine};
+ghost use Rattle.bus.specs.Run.{traced, wireRun};
+use board::Answer;
 use board::Seat;
+use board::board_number;
+use board::chip_count;
 use board::is_bit;
+use board::load;
+use board::save;
 use controller::Begin;
 use controller::Controller;
 use controller::Phase;
@@ -20,6 +26,9 @@ use lines::Event;
 use lines::Eye;
 use lines::Lines;
 use lines::put_at;
+use orders::Checked;
+use orders::check;
+use orders::start;
 
 // No run gets there: the list's own bound is far below.
 const LIMIT: usize = 1099511627776;
@@ -229,7 +238,7 @@ pub fn goes(
     ensures went { λ r. ⌜ Went (now (list .entry)) asked
         (busOn (now (holds .entry)) start (seated n at (now (memory .entry))) (now (area .entry)) 0) (now (trace .entry))
         (busOn (now (holds .entry)) (r .bus) (seated n (r .seats) (now (memory .exit))) (now (area .exit)) (r .ticks)) (r .ticks) (now (trace .exit)) ⌝ }
-    ensures fits { λ r. ⌜ length (now (memory .exit)) ≡ offset n (r .seats) ⌝ }
+    ensures fits { λ r. ⌜ (length (now (memory .exit)) ≡ offset n (r .seats)) × (length (r .seats) ≡ 8) ⌝ }
 {
     let mut bus = start;
     let mut seats = at;
@@ -286,5 +295,94 @@ pub fn goes(
         bus: bus,
         ticks: t,
         seats: seats,
+    }
+}
+
+// The accepted part of the run: the result area started, the chips loaded, ticks until the end, the states saved.
+fn wires(
+    list: &[u8],
+    size: usize,
+    marks: u8,
+    memory: &mut [u8],
+    states: &mut [u8],
+    holds: &[u8],
+    asked: u16,
+    results: &mut [u8],
+    trace: &mut [u8],
+) -> Answer
+    requires { ⌜ Fine (now list) size marks (now memory) (now states) (now holds) asked (now results) ⌝ }
+    ensures { λ r. ⌜ traced r (now (memory .exit)) (now (states .exit)) (now (results .exit)) (now (trace .exit))
+        ≡ wireRun (now (list .entry)) marks (now (memory .entry)) (now (states .entry)) (now (holds .entry)) asked (now (results .entry)) (now (trace .entry)) ⌝ }
+{
+    start(list, size, results);
+    let n = chip_count(marks);
+    let seats = load(marks, states);
+    let control = Controller::first(list);
+    let eye = Eye::opened();
+    let bus = Bus {
+        control: control,
+        hold: Holder { left: 0, next: 0 },
+        eye: eye,
+        up: true,
+    };
+    let ran = goes(bus, seats, n, asked, list, holds, memory, results, trace);
+    let last = ran.seats;
+    save(last, n, ran.ticks, states);
+    Answer {
+        number: 0,
+        ticks: ran.ticks,
+    }
+}
+
+// The entry "whole-bus run": a list over two wires. The refusals are looked at in the order 1 to 7, and change no lent byte.
+pub fn run(
+    list: &[u8],
+    marks: u8,
+    memory: &mut [u8],
+    states: &mut [u8],
+    holds: &[u8],
+    asked: u16,
+    results: &mut [u8],
+    trace: &mut [u8],
+) -> Answer
+    ensures { λ r. ⌜ traced r (now (memory .exit)) (now (states .exit)) (now (results .exit)) (now (trace .exit))
+        ≡ wireRun (now (list .entry)) marks (now (memory .entry)) (now (states .entry)) (now (holds .entry)) asked (now (results .entry)) (now (trace .entry)) ⌝ }
+{
+    let checked = check(list);
+    match checked {
+        Checked::TooLong => Answer {
+            number: 1,
+            ticks: 0,
+        },
+        Checked::Broken(_) => Answer {
+            number: 2,
+            ticks: 0,
+        },
+        Checked::Accepted(size) => {
+            let number = board_number(marks, memory, states, holds, asked);
+            if number != 0 {
+                return Answer {
+                    number: number,
+                    ticks: 0,
+                };
+            }
+            if results.len() < size {
+                return Answer {
+                    number: 7,
+                    ticks: 0,
+                };
+            }
+            wires(
+                list,
+                size,
+                marks,
+                memory,
+                states,
+                holds,
+                asked,
+                results,
+                trace,
+            )
+        }
     }
 }
