@@ -218,6 +218,7 @@ module _ (l : Lines) (p : Bool) (s : State) where
     where
       rest : ℕ
       rest = thenMost (s .job) (s .context)
+
       go : (c d b : Bool) → isFirst y ≡ b → (b && not (c && d)) ≡ false → (not c && leb mostHeld n) ≡ false
           → leftIn (cond c (Three y d) (Two y (suc n))) s < symbolLeft b n + rest
       go true d true e f r = omega arith
@@ -264,6 +265,7 @@ ends (x ∷ xs) c h = go (isOver (c .phase)) refl (ends xs (controlTick orders (
   where
     less : (a b n : ℕ) → a < b → b ≤ suc n → a ≤ n
     less a b n f h = omega arith
+
     go : (b : Bool) → isOver (c .phase) ≡ b → (leftOf (controlTick orders (linesOf x) c) ≤ length xs → isOver (walk (party orders) xs (controlTick orders (linesOf x) c) .phase) ≡ true)
         → isOver (walk (party orders) xs (controlTick orders (linesOf x) c) .phase) ≡ true
     go true e more = ap (λ (d : Control State). isOver (d .phase)) (walk-over orders (x ∷ xs) c e) ∙ e

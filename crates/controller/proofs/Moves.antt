@@ -111,6 +111,7 @@ module _ (Q : Plan) (l : Lines) where
     where
       at : Phase → Control (Q .State)
       at ph = record { phase = ph; was = c .was; plan = c .plan }
+
       go : (ph : Phase) → isOver ph ≡ true → settle Q (faultOf ph (c .was) l) l (at ph) ≡ at ph
       go (Over f) k = refl
       go (Waiting n) k = absurd (true≢false (sym k))

@@ -104,7 +104,7 @@ module _ (list : List ℕ) where
         let n : isOver (c .phase) ≡ false = sym oe ∙ of in
         let s : t < length ds = omega arith in
         let g : onward (t + 1) (set ds t (byteOf (drives (c .phase) (c .was)))) (drop (suc t) samples) (controlTick (places list) (linesOf (getD samples t 0)) (controlOf c a)) ≡ r =
-            onward-turn t (getD samples t 0) ds (drop (suc t) samples) (controlOf c a) s n ∙ (rw (drop-cons samples t 0 h) at so-far) in
+        onward-turn t (getD samples t 0) ds (drop (suc t) samples) (controlOf c a) s n ∙ (rw (drop-cons samples t 0 h) at so-far) in
         rw (ds-is, ce, be, de, le, add-one t) (rw (add-one t) at g)
 
     -- at its end, and at the record's end

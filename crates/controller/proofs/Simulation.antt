@@ -120,6 +120,7 @@ module _ (list : List ℕ) (short : length list ≤ mostBytes) where
     where
       n : ℕ
       n = c .slot + slotsOf (x .now .message)
+
       cases : (ms : List Message) → Stands list (h .next) ms (h .later) → x .later ≡ batches (n + slotsOfAll ms) (h .later) → c .left ≡ length ms
           → Alike list (cond (eqb (c .left) 0) (acts Closes c) (acts Reopens (passed list c))) (x .log) (goOn (slotted n ms) x)
       cases [] s a l = rw (eq-eqb (c .left) 0 l) (record { doing = (refl, h); top = t; log = refl })
@@ -190,8 +191,10 @@ module _ (list : List ℕ) (short : length list ≤ mostBytes) where
     where
       k : ℕ
       k = x .now .message .kind
+
       n : ℕ
       n = x .now .message .asked
+
       cases : (b : Bool) → isWrite k ≡ b
           → Alike list (cond b (putsOn list n 0 c) (carriesOn (Gets 7 0 (quotaOf k n)) 0 0 c)) (x .log) (carries (cond b (put (x .now .message .sent)) (get (quotaOf k n))) x)
       cases true w =
@@ -237,19 +240,19 @@ module _ (list : List ℕ) (short : length list ≤ mostBytes) where
       let f : (top + 1) % wrap ≡ top + 1 = wraps (top + 1) (omega arith) in
       let n : top + 1 + slotsOf m + slotsOfAll ms ≡ top + (1 + (slotsOf m + slotsOfAll ms)) = omega arith in
       let w : Here list (at + 3) (getD list at 0 - 1) (top + 1) (record { message = m; slot = top + 1 }) (slotted (top + 1 + slotsOf m) ms)
-              (batches (top + (1 + (slotsOf m + slotsOfAll ms))) ts) =
-          record {
-            next = q;
-            others = ms;
-            later = ts;
-            message = i;
-            stands = st;
-            todo-is = refl;
-            after-is = ap (λ (y : ℕ). batches y ts) (sym n);
-            left-is = k;
-            slot-is = refl;
-            small = omega arith;
-          } in
+      (batches (top + (1 + (slotsOf m + slotsOfAll ms))) ts) =
+      record {
+        next = q;
+        others = ms;
+        later = ts;
+        message = i;
+        stands = st;
+        todo-is = refl;
+        after-is = ap (λ (y : ℕ). batches y ts) (sym n);
+        left-is = k;
+        slot-is = refl;
+        small = omega arith;
+      } in
       rw (lt-ltb at (length list) z, e, f) (record { doing = (refl, w); top = refl; log = refl })
 
   -- the same symbol is asked for
@@ -281,7 +284,7 @@ module _ (list : List ℕ) (short : length list ≤ mostBytes) where
       let p : Cursor = passedAll list (suc (length (h .others))) c in
       let r = all-passed (follows (h .message) (h .stands)) c refl (h .small) in
       let g : batches (p .slot) (h .later) ≡ x .later =
-          ap (λ (y : ℕ). batches y (h .later)) (r .slot-is ∙ sym (add-assoc (c .slot) (slotsOf (x .now .message)) (slotsOfAll (h .others)))) ∙ sym (h .after-is) in
+      ap (λ (y : ℕ). batches y (h .later)) (r .slot-is ∙ sym (add-assoc (c .slot) (slotsOf (x .now .message)) (slotsOfAll (h .others)))) ∙ sym (h .after-is) in
       let o = opened (r .stands) (p .slot) (note closed (x .top) (x .log)) (r .small) in
       relog (subst (λ (b : List Batch). Alike list (opensAfter list p) (note closed (x .top) (x .log)) (opens b (note closed (x .top) (x .log)))) g o) (rw (t, e))
 
@@ -324,7 +327,7 @@ module _ (list : List ℕ) (short : length list ≤ mostBytes) where
       let g : c .at + 3 + suc (c .count) ≡ suc (c .at + 3 + c .count) = omega arith in
       let y : Context = marked (written (c .count) (dataAt list c) true) x in
       let p : Alike list (putsOn list (c .more) (suc (c .count)) c) (y .log) (writes (suc (c .count)) (take (c .more) (drop (c .at + 3 + suc (c .count)) list)) y) =
-          puts (c .more) (suc (c .count)) c y h t (omega arith) (omega arith) in
+      puts (c .more) (suc (c .count)) c y h t (omega arith) (omega arith) in
       rw (d .0, o) (relog (rw g at p) (rw (f, s, e)))
   steps-alike (Gets zero y q) v c l j x d t e = rw (d .0) (record { doing = (refl, d .1, d .2); top = t; log = e })
   steps-alike (Gets (suc k) y q) v c l j x d t e = rw (d .0, some k, less k) (record { doing = (refl, d .1, d .2); top = t; log = e })

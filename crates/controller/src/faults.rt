@@ -2,7 +2,6 @@
 ghost use mathlib.Core.Path.{_≡_};
 ghost use mathlib.Core.Bool.{not, _&&_, Bool·beq};
 ghost use Rattle.controller.specs.Faults.{isBroken, isFirst, isTaken, isStuck, isBit, isUndefined, letsGo, isStop, isLost, faultOf, outcomeOf, isClear};
-
 use crate::Begin;
 use crate::Fault;
 use crate::Phase;

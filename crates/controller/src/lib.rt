@@ -7,16 +7,15 @@ ghost use Rattle.controller.specs.Ticks.{controlTick};
 ghost use Rattle.controller.specs.Cursor.{places, controlOf, firstOf};
 ghost use Rattle.controller.specs.Alone.{endOf, alone};
 ghost use Rattle.controller.specs.Running.{ranOn, refusedAs};
-
 use lines::Lines;
 use lines::all_within;
 use lines::put_at;
 use orders::Checked;
 use orders::Quota;
 
-mod symbols;
 mod faults;
 mod places;
+mod symbols;
 
 // A START is the first of its transaction, or a repeated one.
 pub enum Begin {

@@ -3,7 +3,6 @@ ghost use mathlib.Core.Path.{_≡_};
 ghost use Prim.Native.Nat.{_+_, _-_, _%_};
 ghost use Rattle.controller.specs.Ticks.{enter};
 ghost use Rattle.controller.specs.Cursor.{acts, carriesOn, counted, nowhere, addressAt, dataAt, passed, passedAll, goesOn, refusedBy, putsOn, getsOn, carriesOut, opensAt, stepOf, noteOf, askOf};
-
 use crate::Act;
 use crate::Begin;
 use crate::Cursor;
@@ -131,7 +130,11 @@ impl Cursor {
         if n == 0 {
             self.goes_on(list)
         } else {
-            self.carries_on(Act::Gets(7, 0, quota.remain(n - 1)), self.count % 255 + 1, 0)
+            self.carries_on(
+                Act::Gets(7, 0, quota.remain(n - 1)),
+                self.count % 255 + 1,
+                0,
+            )
         }
     }
 

@@ -4,7 +4,6 @@ ghost use Rattle.controller.specs.Symbols.{row, drives, isOver};
 ghost use Rattle.controller.specs.Faults.{faultOf};
 ghost use Rattle.controller.specs.Moves.{phaseAfter, isLast};
 ghost use Rattle.controller.specs.declared.Fault.the-variants.{Clear};
-
 use crate::Begin;
 use crate::Fault;
 use crate::Phase;

@@ -13,7 +13,7 @@ use Rattle.controller.proofs.run.Lts as lts
 
 abbrev Inv-loop : tie.InvT-loop
 Inv-loop list samples drives₀ results₀ c₀ t₀ drives results c t =
-    (onward list t drives (drop t samples) (controlOf c results) ≡ ranOn list drives₀ samples (controlOf (firstOf list) results₀)) 
+    (onward list t drives (drop t samples) (controlOf c results) ≡ ranOn list drives₀ samples (controlOf (firstOf list) results₀))
     × (length samples ≤ length drives) × (length drives ≡ length drives₀) × (length results ≡ length results₀)
 
 abbrev μ-loop : tie.MeasureT-loop
@@ -41,10 +41,14 @@ run-spec =
     (λ c. let s = c .before .before .before .before .before .before .before .before .before .before .before .before .before .before .before .before .before .good .1 .0 .0 in let h = c .before .before .before .before .before .before .before .before .before .before .loop-test .taken in search needs)
     (λ c. let h = c .before .before .before .before .before .before .before .before .before .before .loop-test .taken in search needs)
     (λ c. let i = c .before .before .before .before .before .before .before .before .before .before .before .loop .inv in
-        let h = c .before .before .before .before .before .before .before .before .before .before .loop-test .taken in
-        let k = i .1 in
-        (turn _ _ _ _ _ _ _ (i .0) _ _ _ _ _ _ _ (c .before .before .before .before .before .before .before .before .before .is-over .ensures) (c .before .before .before .before .before .before .before .before .if1 .left) (c .before .before .before .before .before .before .before .drive .ensures) (c .before .before .before .before .before .before .byte .ensures) refl
-        (c .before .before .before .before .from-byte .ensures) (c .before .before .tick .ensures) h k, search (needs, length-set), search (needs, length-set), c .before .before .tick .kept .1 .1 .1 .0 ∙ i .3))
+    let h = c .before .before .before .before .before .before .before .before .before .before .loop-test .taken in
+    let k = i .1 in (
+      turn _ _ _ _ _ _ _ (i .0) _ _ _ _ _ _ _ (c .before .before .before .before .before .before .before .before .before .is-over .ensures) (c .before .before .before .before .before .before .before .before .if1 .left) (c .before .before .before .before .before .before .before .drive .ensures) (c .before .before .before .before .before .before .byte .ensures) refl
+          (c .before .before .before .before .from-byte .ensures) (c .before .before .tick .ensures) h k,
+      search (needs, length-set),
+      search (needs, length-set),
+      c .before .before .tick .kept .1 .1 .1 .0 ∙ i .3,
+    ))
     (λ c κs. search needs)
     (λ c. c .before .before .loop .inv .2)
     (λ c. c .before .before .loop .inv .3)
