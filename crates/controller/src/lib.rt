@@ -44,8 +44,8 @@ pub enum Fault {
 pub enum Phase {
     // at the end, by a fault or without one
     Over(Fault),
-    // the ticks of the wait that follow this one
-    Waiting(u16),
+    // the ticks of the wait that follow this one; four bytes, or it would share bytes with a symbol and slow every tick
+    Waiting(u32),
     Zero(Symbol),
     One(Symbol),
     // the ticks already held
@@ -57,7 +57,7 @@ pub enum Phase {
 // What the symbol under way is for.
 pub enum Act {
     // the first START, after a wait
-    Opens(u16),
+    Opens(u32),
     Reopens,
     Closes,
     Finishes,

@@ -161,7 +161,7 @@ impl Cursor {
             let low = byte_at(list, place + 1);
             let high = byte_at(list, place + 2);
             Cursor {
-                act: Act::Opens(low as u16 + 256 * (high as u16)),
+                act: Act::Opens(low as u32 + 256 * (high as u32)),
                 at: ((place + 3) % WRAP) as u32,
                 left: less(list[place]),
                 slot: ((top as usize + 1) % WRAP) as u32,

@@ -112,7 +112,7 @@ impl Phase {
             Phase::Waiting(_) => false,
             Phase::Zero(_) => false,
             Phase::One(_) => false,
-            Phase::Two(_, _) => false,
+            Phase::Two(_, _) => false, // a result noted here would be noted twice
             Phase::Three(_, _) => true,
         }
     }
