@@ -96,6 +96,12 @@ module _ (P : Party) where
   pub drove : (i : ℕ) (xs : List ℕ) (s s₀ : P .State) (d d₀ : List ℕ) → leaves i xs s d ≡ leaves 0 xs s₀ d₀ → length xs ≤ i → d ≡ over (drivesOn P xs s₀) d₀
   drove i xs s s₀ d d₀ e h = ap (λ (z : Left). z .drives) (sym (at-end i xs s d h) ∙ e ∙ from-first xs s₀ d₀)
 
+  -- what every tick keeps, the record keeps
+  pub walk-keeps : (Q : P .State → Type 0) → ((l : Lines) (s : P .State) → Q s → Q (P .tick l s)) → (xs : List ℕ) (s : P .State) → Q s → Q (walk P xs s)
+  unfolding walk
+  walk-keeps Q k [] s h = h
+  walk-keeps Q k (x ∷ xs) s h = walk-keeps Q k xs (P .tick (linesOf x) s) (k (linesOf x) s h)
+
   -- the party is at its end, which it does not leave
   module _ (s : P .State) (over : P .ended s ≡ true) (stays : (l : Lines) → P .tick l s ≡ s) where
     walks-no-more : (xs : List ℕ) → walk P xs s ≡ s
