@@ -11,54 +11,60 @@
 mod report;
 mod spelling;
 
-ghost use Prim.Native.Nat.{_≤_};
-use eeprom::Answer;
 use lines::byte_at;
-use lines::put_at;
 use spelling::Case;
 use spelling::Script;
 use spelling::Tape;
 
-fn least(a: usize, b: usize) -> usize
-    ensures { λ r. ⌜ (r ≤ a) × (r ≤ b) ⌝ }
-{
-    if a < b { a } else { b }
+// The chip on the first ticks of the record.
+fn runs(case: Case, rec: &[u8], ticks: u16) {
+    let mut drives = io::large_buffer();
+    let mut memory = report::first_bytes();
+    let mut state = [0u8; 4];
+    eeprom::put_state(&mut state, case.pointer, case.busy);
+    let n = io::count(ticks as isize, rec);
+    let m = io::count(case.memory as isize, &memory);
+    let y = io::count(case.state as isize, &state);
+    let v = io::count(case.drives as isize, &drives);
+    let answer = eeprom::chip_alone(
+        case.strap,
+        &mut memory[..m],
+        &mut state[..y],
+        case.asked,
+        &rec[..n],
+        &mut drives[..v],
+    );
+    report::answered(answer, &state);
+    if case.sweep == 0 {
+        report::pulled(&drives, answer.ticks);
+    } else {
+        report::digest(&drives, answer.ticks);
+    }
+    report::changed(&memory);
 }
 
-// The chip on the first ticks of the record.
-fn run(
-    case: Case,
-    rec: &[u8],
-    ticks: usize,
-    memory: &mut [u8],
-    state: &mut [u8],
-    drives: &mut [u8],
-) -> Answer {
-    report::fill(memory);
-    eeprom::put_state(state, case.pointer, case.busy);
-    let n = least(ticks, rec.len());
-    let m = least(case.memory as usize, memory.len());
-    let y = least(case.state as usize, state.len());
-    let v = least(case.drives as usize, drives.len());
-    eeprom::chip_alone(case.strap, &mut memory[..m], &mut state[..y], case.asked, &rec[..n], &mut drives[..v])
+// How many ticks of the record are kept.
+fn last_kept(sweep: u8, ticks: u16, t: u16) -> u16 {
+    if sweep == 3 { ticks } else { t }
+}
+
+// A sample of the record, or with SDA flipped.
+fn seen(sweep: u8, x: u8, here: bool) -> u8 {
+    if sweep == 3 {
+        if here { (x % 4 + 2) % 4 } else { x }
+    } else {
+        x
+    }
 }
 
 // The record up to a tick, and then a STOP, a START, or the rest with SDA flipped in that tick; then one byte is read.
-fn cut(sweep: u8, rec: &[u8], ticks: usize, t: usize, out: &mut [u8]) -> Tape {
-    let last = if sweep == 3 { ticks } else { t };
+fn cut(sweep: u8, rec: &[u8], ticks: u16, t: u16, out: &mut [u8]) -> Tape {
+    let last = last_kept(sweep, ticks, t);
     let mut tape = Tape::opened();
     let mut i = 0;
     while i < last {
-        let x = byte_at(rec, i) % 4;
-        if sweep == 3 {
-            if i == t {
-                tape = tape.raw(out, (x + 2) % 4);
-            } else {
-                tape = tape.raw(out, x);
-            }
-        } else {
-            tape = tape.raw(out, x);
-        }
+        let x = byte_at(rec, i as usize);
+        tape = tape.raw(out, seen(sweep, x, i == t));
         i += 1;
     }
     if sweep == 1 {
@@ -79,41 +85,25 @@ fn cut(sweep: u8, rec: &[u8], ticks: usize, t: usize, out: &mut [u8]) -> Tape {
 }
 
 // A record again and again, with something at each of its ticks.
-fn sweeps(case: Case, rec: &[u8], ticks: usize) {
+fn sweeps(case: Case, rec: &[u8], ticks: u16) {
     let mut other = io::large_buffer();
-    let mut drives = io::large_buffer();
-    let mut memory = io::buffer();
-    let mut state = [0u8; 4];
     let mut t = 0;
     while t < ticks {
         let tape = cut(case.sweep, rec, ticks, t, &mut other);
-        let answer = run(case, &other, tape.at, &mut memory, &mut state, &mut drives);
         report::number(t as u64);
-        report::answered(answer, &state);
-        report::digest(&drives, answer.ticks);
-        report::changed(&memory);
+        runs(case, &other, tape.at);
         t += 1;
     }
-}
-
-fn once(case: Case, rec: &[u8], ticks: usize) {
-    let mut drives = io::large_buffer();
-    let mut memory = io::buffer();
-    let mut state = [0u8; 4];
-    let answer = run(case, rec, ticks, &mut memory, &mut state, &mut drives);
-    report::answered(answer, &state);
-    report::pulled(&drives, answer.ticks);
-    report::changed(&memory);
 }
 
 fn shows(script: Script, rec: &[u8]) {
     let case = script.case;
     let tape = script.tape;
-    if 0 < case.sweep {
+    if case.sweep == 0 {
+        runs(case, rec, tape.at);
+    } else {
         report::ends();
         sweeps(case, rec, tape.at);
-    } else {
-        once(case, rec, tape.at);
     }
 }
 
@@ -125,19 +115,19 @@ fn cases(text: &[u8]) {
     let mut i = 0;
     while i < text.len() {
         let c = text[i];
+        i += 1;
         if c == b'\n' {
             shows(script, &rec);
             script = Script::opened();
             named = false;
-        } else {
-            if named {
-                script = script.command(c, &mut rec);
-            } else {
-                report::letter(c);
-                named = c == b':';
-            }
+            continue;
         }
-        i += 1;
+        if named {
+            script = script.command(c, &mut rec);
+            continue;
+        }
+        report::letter(c);
+        named = c == b':';
     }
 }
 

@@ -8,12 +8,14 @@ fn first_byte(i: usize) -> u8 {
     (i % 251) as u8
 }
 
-pub fn fill(memory: &mut [u8]) {
+pub fn first_bytes() -> [u8; 4096] {
+    let mut memory = [0u8; 4096];
     let mut i = 0;
-    while i < memory.len() {
+    while i < 4096 {
         memory[i] = first_byte(i);
         i += 1;
     }
+    memory
 }
 
 pub fn letter(c: u8) {
@@ -30,47 +32,44 @@ pub fn number(n: u64) {
 }
 
 // Number, ticks, pointer, busy ticks.
-pub fn answered(answer: Answer, state: &[u8]) {
+pub fn answered(answer: Answer, state: &[u8; 4]) {
     number(answer.number as u64);
     number(answer.ticks as u64);
     number(word_at(state, 0) as u64);
     number(word_at(state, 2) as u64);
 }
 
-// A drive byte that pulls SDA and lets go of SCL.
-fn is_low(drives: &[u8], i: usize, ticks: usize) -> bool {
-    if i < ticks { byte_at(drives, i) == 1 } else { false }
-}
-
 // The ticks in which SDA was pulled, as first-last; a drive byte that is neither 1 nor 3 would be told.
-pub fn pulled(drives: &[u8], ticks: usize) {
+pub fn pulled(drives: &[u8; 65536], ticks: usize) {
     io::write_all(1, b" low");
-    let mut before = false;
+    let mut low = false;
     let mut i = 0;
-    while i <= 65535 {
-        let low = is_low(drives, i, ticks);
-        if low {
-            if !before {
+    while i < ticks {
+        let x = byte_at(drives, i);
+        if x == 1 {
+            if !low {
                 number(i as u64);
-            }
-        } else {
-            if before {
                 io::write_all(1, b"-");
-                io::print_decimal(1, i as u64 - 1);
             }
-            if i < ticks {
-                if byte_at(drives, i) != 3 {
-                    io::write_all(1, b" strange");
+            if byte_at(drives, i + 1) != 1 {
+                io::print_decimal(1, i as u64);
+            } else {
+                if i + 1 == ticks {
+                    io::print_decimal(1, i as u64);
                 }
             }
+        } else {
+            if x != 3 {
+                io::write_all(1, b" strange");
+            }
         }
-        before = low;
+        low = x == 1;
         i += 1;
     }
 }
 
 // All drive bytes in one number.
-pub fn digest(drives: &[u8], ticks: usize) {
+pub fn digest(drives: &[u8; 65536], ticks: usize) {
     let mut sum = 1;
     let mut i = 0;
     while i < ticks {
@@ -82,10 +81,10 @@ pub fn digest(drives: &[u8], ticks: usize) {
 }
 
 // The places whose byte is another one now.
-pub fn changed(memory: &[u8]) {
+pub fn changed(memory: &[u8; 4096]) {
     let mut i = 0;
-    while i < memory.len() {
-        let x = memory[i];
+    while i < 4096 {
+        let x = byte_at(memory, i);
         if x != first_byte(i) {
             number(i as u64);
             io::write_all(1, b":");

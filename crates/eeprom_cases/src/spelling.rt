@@ -5,7 +5,7 @@ use lines::put_at;
 
 // The record so far, and the lines of its last tick.
 pub struct Tape {
-    pub at: usize,
+    pub at: u16,
     pub scl: bool,
     pub sda: bool,
 }
@@ -40,8 +40,12 @@ impl Tape {
     }
 
     pub fn raw(self, rec: &mut [u8], x: u8) -> Tape {
-        put_at(rec, self.at, x);
-        let next = if self.at < 65535 { self.at + 1 } else { self.at };
+        put_at(rec, self.at as usize, x);
+        let next = if self.at < 65535 {
+            self.at + 1
+        } else {
+            self.at
+        };
         Tape {
             at: next,
             scl: bit_at(0, x),
@@ -50,10 +54,7 @@ impl Tape {
     }
 
     pub fn tick(self, rec: &mut [u8], scl: bool, sda: bool) -> Tape {
-        let lines = Lines {
-            scl: scl,
-            sda: sda,
-        };
+        let lines = Lines { scl: scl, sda: sda };
         self.raw(rec, lines.byte())
     }
 
@@ -180,7 +181,7 @@ impl Script {
         let n = self.word;
         match c {
             b'0'..=b'9' => self.digit(c - b'0'),
-            b'a'..=b'f' => self.digit(c - b'a' + 10),
+            b'a'..=b'f' => self.digit(c - 87),
             b',' => self.with_tape(tape.byte(rec, (n % 256) as u8, false)),
             b'r' => self.with_tape(tape.byte(rec, 255, false)),
             b'n' => self.with_tape(tape.byte(rec, 255, true)),
