@@ -42,6 +42,13 @@ pub from-front : (row lent : List ℕ) → overFrom 0 row lent ≡ over row lent
 unfolding overFrom
 from-front row lent = refl
 
+pub length-over : (row lent : List ℕ) → length (over row lent) ≡ length lent
+unfolding over
+length-over [] [] = refl
+length-over [] (y ∷ lent) = refl
+length-over (x ∷ row) [] = refl
+length-over (x ∷ row) (y ∷ lent) = ap suc (length-over row lent)
+
 -- a row as long as what was lent takes its place
 pub over-whole : (row lent : List ℕ) → length row ≡ length lent → over row lent ≡ row
 unfolding over
