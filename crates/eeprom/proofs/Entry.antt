@@ -1,11 +1,11 @@
 -- What the code of the entry "one chip alone" leans on: its refusals in their order, a tick of the chip with its eye, the bytes of its state, and the
 -- whole run. Assumes nothing.
-use Prim.Native.Nat.{ℕ, zero, suc, _+_, _*_, _/_, _%_, _<_, _≤_}
+use Prim.Native.Nat.{ℕ, suc, _+_, _/_, _%_, _<_, _≤_}
 use mathlib.Core.Path.{_≡_, refl, ap, sym, _∙_}
 use mathlib.Core.Bool.{Bool, true, false, not, _&&_, and-eq-true-iff}
 use mathlib.Core.List.{List, [], _∷_}
 use native.Mathlib.Omega.{arith}
-use borrow.Author.Tests.{lt-ltb, le-ltb, le-leb, eq-eqb, ne-eqb, ltb-false, eqb-true, not-true, not-false}
+use borrow.Author.Tests.{lt-ltb, le-ltb, eq-eqb, ne-eqb, ltb-false, eqb-true, not-false}
 use lib.Dec.{eqb, ltb, leb}
 use lib.ListN.{length, getD, set}
 use Rattle.lines.specs.Levels.{hi, _∥_, byteOf, linesOf}
@@ -18,12 +18,11 @@ use Rattle.eeprom.specs.Pages.{geometryOf}
 use Rattle.eeprom.specs.Keeping.{Kept, keptOf}
 use Rattle.eeprom.specs.Stages.{Core, coreOf, hears, sdaOf, busyAfter, bodyTick}
 use Rattle.eeprom.specs.States.{mostBusy, wordAt, wordBytes, keptAt, bodyFrom, stateBytes, stateRight}
-use Rattle.eeprom.specs.Alone.{Watching, watchOf, restOf, chip, chipNumber, ChipAlone, leftBy, chipAlone}
+use Rattle.eeprom.specs.Alone.{Watching, watchOf, restOf, chip, chipNumber, leftBy, chipAlone}
 use Rattle.eeprom.specs.declared.Store.{Store}
 use Rattle.eeprom.specs.declared.Stage.the-variants.{Deaf}
 use Rattle.eeprom.specs.declared.Chip.{Chip}
 use Rattle.eeprom.specs.declared.Watch.{Watch}
-use Rattle.eeprom.specs.declared.Answer.{Answer}
 use Rattle.eeprom.specs.declared.Model.{Model}
 use Rattle.eeprom.specs.declared.Model.the-variants.{Large}
 use Rattle.eeprom.proofs.Records.{Left, leaves, one-byte, all-bytes, from-front, one-tick, over-whole, none-first, none-later, not-said}

@@ -1,24 +1,23 @@
 -- What one chip alone leaves is in range: a call with the memory and the state that an accepted call left is accepted again. Assumes nothing.
-use Prim.Native.Nat.{ℕ, zero, suc, _+_, _*_, _-_, _/_, _%_, _≤_, _<_}
+use Prim.Native.Nat.{ℕ, _+_, _-_, _≤_, _<_}
 use mathlib.Core.Path.{_≡_, refl, ap, sym, _∙_}
-use mathlib.Core.Bool.{Bool, true, false, not, _&&_, cond, and-eq-true-iff}
-use mathlib.Core.List.{List, [], _∷_}
+use mathlib.Core.Bool.{Bool, true, false, _&&_, cond, and-eq-true-iff}
+use mathlib.Core.List.{List, []}
 use native.Mathlib.Omega.{arith}
-use borrow.Author.Tests.{le-ltb, lt-ltb, le-leb, eq-eqb, ltb-true, ltb-false, leb-true, not-false}
+use borrow.Author.Tests.{lt-ltb, le-leb, ltb-true, leb-true}
 use lib.Dec.{eqb, ltb, leb}
 use lib.ListN.{length}
 use Rattle.lines.specs.Events.{opened}
-use Rattle.lines.specs.Records.{walk, drivesOn, over, no, _then_, allWithin}
-use Rattle.lines.specs.declared.Lines.{Lines}
+use Rattle.lines.specs.Records.{walk, allWithin}
 use Rattle.lines.specs.declared.Event.{Event}
 use Rattle.lines.specs.declared.Event.the-variants.{Quiet, Started, Stopped, Bit}
 use Rattle.eeprom.specs.Pages.{geometryOf}
 use Rattle.eeprom.specs.Stages.{Core, due, Body, busyAfter, bodyTick}
-use Rattle.eeprom.specs.States.{mostBusy, wordAt, wordBytes, bodyFrom, stateBytes, stateRight}
+use Rattle.eeprom.specs.States.{mostBusy, wordAt, wordBytes, bodyFrom, stateRight}
 use Rattle.eeprom.specs.Alone.{Watching, chip, chipNumber, chipAlone}
 use Rattle.eeprom.specs.declared.Model.{Model}
 use Rattle.eeprom.specs.declared.Model.the-variants.{Large}
-use Rattle.eeprom.proofs.Pages.{Fits, fits}
+use Rattle.eeprom.proofs.Pages.{fits}
 use Rattle.eeprom.proofs.Kept.{Sound, sound-at-rest}
 use Rattle.eeprom.proofs.Listening.{hears-model, hears-sound}
 use Rattle.eeprom.proofs.Entry.{whole-memory, right-state, asked-in}

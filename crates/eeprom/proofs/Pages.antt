@@ -1,6 +1,6 @@
 -- The steps of the pointer, once for every size and page; then each model there is. Assumes nothing.
-use Prim.Native.Nat.{ℕ, zero, suc, _+_, _*_, _/_, _%_, _≤_, _<_}
-use mathlib.Core.Path.{_≡_, refl, ap, sym, _∙_}
+use Prim.Native.Nat.{ℕ, _+_, _*_, _/_, _%_, _≤_, _<_}
+use mathlib.Core.Path.{_≡_, refl, ap, _∙_}
 use native.Mathlib.Omega.{arith}
 use native.Mathlib.Nat.{mul-add-div-right, mul-add-mod-self-right, mod-lt, mod-le, mod-mod, mod-add-mod, div-eq-of-lt, div-lt-iff-lt-mul, div-mul-le-self, add-zero, suc-mul, mul-le-mul-right}
 use Rattle.eeprom.specs.Pages.{Geometry, Shape, geometryOf, pageStart, pageStep, readStep, pointerOf}

@@ -9,7 +9,7 @@ use native.Mathlib.Numerals.{add-one}
 use lib.ListN.{length, getD, set, take, drop, take-append-drop, drop-of-length-le}
 use lib.Seq.{drop-cons}
 use Rattle.lines.specs.Levels.{byteOf, linesOf}
-use Rattle.lines.specs.Records.{Party, walk, drivesOn, driven, over, no, _then_}
+use Rattle.lines.specs.Records.{Party, walk, drivesOn, over, no, _then_}
 use Rattle.lines.specs.declared.Lines.{Lines}
 
 -- a row written over what was lent, from place i on

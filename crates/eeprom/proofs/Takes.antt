@@ -1,15 +1,15 @@
 -- What the code of the store leans on: which byte is taken, and the latch stored place by place. Assumes nothing.
-use Prim.Native.Nat.{ℕ, zero, suc, _+_, _*_, _-_, _/_, _%_, _≤_, _<_}
+use Prim.Native.Nat.{ℕ, zero, suc, _+_, _-_, _%_, _≤_, _<_}
 use mathlib.Core.Path.{_≡_, refl, ap, sym, _∙_}
-use mathlib.Core.Bool.{Bool, true, false, cond}
+use mathlib.Core.Bool.{Bool, true, false}
 use mathlib.Core.List.{List, [], _∷_}
 use native.Mathlib.Omega.{arith}
 use native.Mathlib.Nat.{suc-le-suc-iff}
 use native.Mathlib.Numerals.{add-one}
 use borrow.Author.Tests.{lt-ltb, le-ltb}
-use lib.ListN.{length, getD, set, replicate, length-set}
+use lib.ListN.{length, getD, set, replicate}
 use Rattle.eeprom.specs.Pages.{pageStart, pageStep, readStep, pointerOf}
-use Rattle.eeprom.specs.Keeping.{Kept, geo, keptOf, blankLatch, takesAt, takes, byteNow, stepped, steps, emptied, starts, storeOne, stored, stops}
+use Rattle.eeprom.specs.Keeping.{Kept, geo, keptOf, blankLatch, takesAt, byteNow, stepped, emptied, storeOne, stored, stops}
 use Rattle.eeprom.specs.declared.Store.{Store}
 
 pub blank : replicate 32 256 ≡ blankLatch
