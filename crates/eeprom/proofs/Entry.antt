@@ -1,11 +1,11 @@
 -- What the code of the entry "one chip alone" leans on: its refusals in their order, a tick of the chip with its eye, the bytes of its state, and the
 -- whole run. Assumes nothing.
-use Prim.Native.Nat.{ℕ, zero, suc, _+_, _*_, _/_, _%_, _<_, _≤_}
+use Prim.Native.Nat.{ℕ, suc, _+_, _/_, _%_, _<_, _≤_}
 use mathlib.Core.Path.{_≡_, refl, ap, sym, _∙_}
 use mathlib.Core.Bool.{Bool, true, false, not, _&&_, and-eq-true-iff}
 use mathlib.Core.List.{List, [], _∷_}
 use native.Mathlib.Omega.{arith}
-use borrow.Author.Tests.{lt-ltb, le-ltb, le-leb, eq-eqb, ne-eqb, ltb-false, eqb-true, not-true, not-false}
+use borrow.Author.Tests.{lt-ltb, le-ltb, eq-eqb, ne-eqb, ltb-false, eqb-true, not-false}
 use lib.Dec.{eqb, ltb, leb}
 use lib.ListN.{length, getD, set}
 use Rattle.lines.specs.Levels.{hi, _∥_, byteOf, linesOf}
@@ -18,12 +18,11 @@ use Rattle.eeprom.specs.Pages.{geometryOf}
 use Rattle.eeprom.specs.Keeping.{Kept, keptOf}
 use Rattle.eeprom.specs.Stages.{Core, coreOf, hears, sdaOf, busyAfter, bodyTick}
 use Rattle.eeprom.specs.States.{mostBusy, wordAt, wordBytes, keptAt, bodyFrom, stateBytes, stateRight}
-use Rattle.eeprom.specs.Alone.{Watching, watchOf, restOf, chip, chipNumber, ChipAlone, leftBy, chipAlone}
+use Rattle.eeprom.specs.Alone.{Watching, watchOf, restOf, chip, chipNumber, leftBy, chipAlone}
 use Rattle.eeprom.specs.declared.Store.{Store}
 use Rattle.eeprom.specs.declared.Stage.the-variants.{Deaf}
 use Rattle.eeprom.specs.declared.Chip.{Chip}
 use Rattle.eeprom.specs.declared.Watch.{Watch}
-use Rattle.eeprom.specs.declared.Answer.{Answer}
 use Rattle.eeprom.specs.declared.Model.{Model}
 use Rattle.eeprom.specs.declared.Model.the-variants.{Large}
 use Rattle.eeprom.proofs.Records.{Left, leaves, one-byte, all-bytes, from-front, one-tick, over-whole, none-first, none-later, not-said}
@@ -84,15 +83,39 @@ module _ (strap asked : ℕ) (memory state samples drives : List ℕ) where
                   rw (le-ltb 7 strap a, whole, eq-eqb (length state) 4 c, ← told, d, le-ltb 20000 asked e, ← fe, f, le-ltb (length drives) (length samples) h)
 
   -- what an accepted call has
-  pub strap-in : (n : ℕ) → n ≡ chipNumber strap memory state asked samples drives → n ≡ 0 → strap ≤ 7
-  unfolding chipNumber
-  strap-in n e z = ltb-false 7 strap (not-said 9 (ltb 7 strap) (none-first (no 10 (ltb 7 strap)) _ (sym e ∙ z)))
+  module _ (n : ℕ) (e : n ≡ chipNumber strap memory state asked samples drives) (z : n ≡ 0) where
+    abbrev fits-lent : Bool
+    fits-lent = eqb (length memory) (geometryOf Large .size) && eqb (length state) 4
 
-  pub four-bytes : (n : ℕ) → n ≡ chipNumber strap memory state asked samples drives → n ≡ 0 → length state ≡ 4
-  unfolding chipNumber
-  four-bytes n e z =
-      let later : (no 3 (not (eqb (length memory) (geometryOf Large .size) && eqb (length state) 4)) then _) ≡ 0 = none-later (no 10 (ltb 7 strap)) _ (sym e ∙ z) in
-      eqb-true (length state) 4 (and-eq-true-iff (eqb (length memory) (geometryOf Large .size)) (eqb (length state) 4) .0 (not-false _ (not-said 2 _ (none-first _ _ later))) .1)
+    abbrev state-in : Bool
+    state-in = stateRight (bodyFrom strap Large memory state 0)
+
+    after-10 : (no 3 (not fits-lent) then no 4 (not state-in) then no 6 (ltb mostBusy asked) then no 8 (badSample samples) then no 9 (ltb (length drives) (length samples))) ≡ 0
+    unfolding chipNumber
+    after-10 = none-later (no 10 (ltb 7 strap)) _ (sym e ∙ z)
+
+    after-3 : (no 4 (not state-in) then no 6 (ltb mostBusy asked) then no 8 (badSample samples) then no 9 (ltb (length drives) (length samples))) ≡ 0
+    after-3 = none-later (no 3 (not fits-lent)) _ after-10
+
+    lent-right : fits-lent ≡ true
+    lent-right = not-false fits-lent (not-said 2 (not fits-lent) (none-first (no 3 (not fits-lent)) _ after-10))
+
+    pub strap-in : strap ≤ 7
+    unfolding chipNumber
+    strap-in = ltb-false 7 strap (not-said 9 (ltb 7 strap) (none-first (no 10 (ltb 7 strap)) _ (sym e ∙ z)))
+
+    pub whole-memory : length memory ≡ geometryOf Large .size
+    whole-memory =
+        eqb-true (length memory) (geometryOf Large .size) (and-eq-true-iff (eqb (length memory) (geometryOf Large .size)) (eqb (length state) 4) .0 lent-right .0)
+
+    pub four-bytes : length state ≡ 4
+    four-bytes = eqb-true (length state) 4 (and-eq-true-iff (eqb (length memory) (geometryOf Large .size)) (eqb (length state) 4) .0 lent-right .1)
+
+    pub right-state : stateRight (bodyFrom strap Large memory state 0) ≡ true
+    right-state = not-false state-in (not-said 3 (not state-in) (none-first (no 4 (not state-in)) _ after-3))
+
+    pub asked-in : asked ≤ mostBusy
+    asked-in = ltb-false mostBusy asked (not-said 5 (ltb mostBusy asked) (none-first (no 6 (ltb mostBusy asked)) _ (none-later (no 4 (not state-in)) _ after-3)))
 
 pub rests : (eye : Eye) (s : Store) (name : ℕ) (model : Model) (p busy : ℕ) → eye ≡ opened → ((m : List ℕ) → keptOf s m ≡ keptAt name model p m) → (m : List ℕ) → watchOf (record { eye = eye; chip = record { stage = Deaf; store = s }; busy = busy }) m ≡ restOf (keptAt name model p m) busy
 rests eye s name model p busy q h m = rw q (ap (λ (k : Kept). restOf k busy) (h m))

@@ -9,11 +9,18 @@ use Rattle.lines.specs.Levels.{shifted}
 use Rattle.lines.specs.declared.Event.{Event}
 use Rattle.lines.specs.declared.Event.the-variants.{Quiet, Started, Stopped, Bit}
 use Rattle.eeprom.specs.Keeping.{Kept, geo, keptOf, takesAt, takes, byteNow, stepped, steps, emptied, starts, stops}
-use Rattle.eeprom.specs.Stages.{Core, coreOf, at, named, answered, bitTo, due, hears}
+use Rattle.eeprom.specs.Stages.{Core, coreOf, at, named, answered, bitTo, due, hears, busyAfter}
 use Rattle.eeprom.specs.declared.Chip.{Chip}
 use Rattle.eeprom.specs.declared.Store.{Store}
 use Rattle.eeprom.specs.declared.Stage.{Stage}
 use Rattle.eeprom.specs.declared.Stage.the-variants.{Deaf, Naming, Named, Taking, Taken, Sending, Asking}
+
+-- the ninth bit of a byte sent
+pub falls-silent : (s r : Store) (m : List ℕ) (b : Bool) → r ≡ stepped s → b ≡ true → coreOf (record { stage = Deaf; store = r }) m ≡ answered b (keptOf (stepped s) m)
+falls-silent s r m b h e = rw (h, e)
+
+pub sends-next : (s r : Store) (m : List ℕ) (b : Bool) (x : ℕ) → r ≡ stepped s → b ≡ false → x ≡ byteNow (keptOf r m) → coreOf (record { stage = Sending 7 x; store = r }) m ≡ answered b (keptOf (stepped s) m)
+sends-next s r m b x h e q = rw (q, h, e)
 
 -- a bit that is not the last of its eight
 naming-on : (n x : ℕ) (free b : Bool) (k : Core) → (n ≡ 0 → ⊥) → at (Naming (n - 1) (shifted x b)) k ≡ bitTo (Naming n x) free b k
@@ -87,3 +94,20 @@ module _ (c : Chip) (m : List ℕ) (free : Bool) (e : Event) where
   pub hears-bit : (b : Bool) (r : Chip) → e ≡ Bit b → coreOf r m ≡ bitTo (c .stage) free b (coreOf c m) → coreOf r m ≡ hears free e (coreOf c m)
   unfolding hears
   hears-bit b r q h = rw q h
+
+-- the busy ticks left: only a STOP that stores sets them
+module _ (c : Chip) (m : List ℕ) (asked n : ℕ) (e : Event) where
+  pub falls-quiet : (r : ℕ) → e ≡ Quiet → r ≡ n - 1 → r ≡ busyAfter asked e (coreOf c m) n
+  falls-quiet r q h = rw q h
+
+  pub falls-at-start : (r : ℕ) → e ≡ Started → r ≡ n - 1 → r ≡ busyAfter asked e (coreOf c m) n
+  falls-at-start r q h = rw q h
+
+  pub set-at-stop : (d : Bool) → e ≡ Stopped → ((k : List ℕ) → d ≡ due (coreOf c k)) → d ≡ true → asked ≡ busyAfter asked e (coreOf c m) n
+  set-at-stop d q z h = rw (q, ← z m, h)
+
+  pub falls-at-stop : (r : ℕ) (d : Bool) → e ≡ Stopped → ((k : List ℕ) → d ≡ due (coreOf c k)) → d ≡ false → r ≡ n - 1 → r ≡ busyAfter asked e (coreOf c m) n
+  falls-at-stop r d q z h l = rw (q, ← z m, h) l
+
+  pub falls-at-bit : (b : Bool) (r : ℕ) → e ≡ Bit b → r ≡ n - 1 → r ≡ busyAfter asked e (coreOf c m) n
+  falls-at-bit b r q h = rw q h

@@ -6,3 +6,4 @@ pub mod Entry
 pub mod Stored
 pub mod Kept
 pub mod Listening
+pub mod Lasting

@@ -1,9 +1,8 @@
 -- What holds of a chip whatever it hears: what the four changes keep is kept, bits store nothing, START and STOP let go of SDA, and a chip that is busy
 -- does not answer. Assumes nothing.
 use Prim.Native.Nat.{ℕ, zero, suc, _/_}
-use mathlib.Core.Path.{_≡_, refl, sym, _∙_}
+use mathlib.Core.Path.{_≡_, refl, _∙_}
 use mathlib.Core.Bool.{Bool, true, false, _&&_, and-false}
-use mathlib.Core.List.{List}
 use borrow.Author.Tests.{ne-eqb}
 use lib.Dec.{eqb}
 use lib.ListN.{length}
@@ -14,7 +13,7 @@ use Rattle.eeprom.specs.Keeping.{Kept, takes, steps, starts, stops}
 use Rattle.eeprom.specs.Stages.{Core, named, answered, bitTo, due, hears, sdaOf, Body, bodyTick}
 use Rattle.eeprom.specs.declared.Stage.{Stage}
 use Rattle.eeprom.specs.declared.Stage.the-variants.{Deaf, Naming, Named, Taking, Taken, Sending, Asking}
-use Rattle.eeprom.proofs.Kept.{Sound, Tame, takes-tame, steps-tame, starts-tame, stops-tame, stops-length, taking-stores-nothing, reading-stores-nothing, start-stores-nothing}
+use Rattle.eeprom.proofs.Kept.{Sound, takes-tame, steps-tame, starts-tame, stops-tame, stops-length, taking-stores-nothing, reading-stores-nothing, start-stores-nothing}
 
 named-keeps : (P : Kept → Type 0) (q : Bool) (x : ℕ) (c : Core) → P (c .kept) → P (named q x c .kept)
 named-keeps P true x c p = p

@@ -1,13 +1,13 @@
 -- The steps of the pointer, once for every size and page; then each model there is. Assumes nothing.
-use Prim.Native.Nat.{ℕ, zero, suc, _+_, _*_, _/_, _%_, _≤_, _<_}
-use mathlib.Core.Path.{_≡_, refl, ap, sym, _∙_}
+use Prim.Native.Nat.{ℕ, _+_, _*_, _/_, _%_, _≤_, _<_}
+use mathlib.Core.Path.{_≡_, refl, ap, _∙_}
 use native.Mathlib.Omega.{arith}
 use native.Mathlib.Nat.{mul-add-div-right, mul-add-mod-self-right, mod-lt, mod-le, mod-mod, mod-add-mod, div-eq-of-lt, div-lt-iff-lt-mul, div-mul-le-self, add-zero, suc-mul, mul-le-mul-right}
 use Rattle.eeprom.specs.Pages.{Geometry, Shape, geometryOf, pageStart, pageStep, readStep, pointerOf}
 use Rattle.eeprom.specs.declared.Model.{Model}
 use Rattle.eeprom.specs.declared.Model.the-variants.{Large}
 
--- whole pages fill the chip, and all that a word can point at; a page is no wider than the latch
+-- whole pages fill the chip, and all that a word can point at; a page is no wider than the latch, and a word reaches every byte
 pub record Fits (g : Geometry) : Type 0 where
   pub pages : ℕ
   pub whole : g .size ≡ pages * g .page
@@ -16,6 +16,7 @@ pub record Fits (g : Geometry) : Type 0 where
   pub some : 0 < g .page
   pub narrow : g .page ≤ 32
   pub full : 0 < g .size
+  pub reach : g .size ≤ 65536
 
 module _ {g : Geometry} (f : Fits g) where
   -- a write step stays in its page, and goes round in it
@@ -63,7 +64,7 @@ module _ {g : Geometry} (f : Fits g) where
 
 pub fits : (m : Model) → Fits (geometryOf m)
 unfolding geometryOf
-fits Large = record { pages = 128; whole = refl; words = 2048; round = refl; some = omega arith; narrow = omega arith; full = omega arith }
+fits Large = record { pages = 128; whole = refl; words = 2048; round = refl; some = omega arith; narrow = omega arith; full = omega arith; reach = omega arith }
 
 -- each model's numbers
 pub size-shape : (m : Model) → Shape 1 4096 4096 (geometryOf m .size)

@@ -9,7 +9,7 @@ use native.Mathlib.Numerals.{add-one}
 use lib.ListN.{length, getD, set, take, drop, take-append-drop, drop-of-length-le}
 use lib.Seq.{drop-cons}
 use Rattle.lines.specs.Levels.{byteOf, linesOf}
-use Rattle.lines.specs.Records.{Party, walk, drivesOn, driven, over, no, _then_}
+use Rattle.lines.specs.Records.{Party, walk, drivesOn, over, no, _then_}
 use Rattle.lines.specs.declared.Lines.{Lines}
 
 -- a row written over what was lent, from place i on
@@ -41,6 +41,13 @@ all-bytes i lent = rw (none-over (drop i lent)) (take-append-drop i lent)
 pub from-front : (row lent : List ℕ) → overFrom 0 row lent ≡ over row lent
 unfolding overFrom
 from-front row lent = refl
+
+pub length-over : (row lent : List ℕ) → length (over row lent) ≡ length lent
+unfolding over
+length-over [] [] = refl
+length-over [] (y ∷ lent) = refl
+length-over (x ∷ row) [] = refl
+length-over (x ∷ row) (y ∷ lent) = ap suc (length-over row lent)
 
 -- a row as long as what was lent takes its place
 pub over-whole : (row lent : List ℕ) → length row ≡ length lent → over row lent ≡ row
@@ -95,6 +102,12 @@ module _ (P : Party) where
 
   pub drove : (i : ℕ) (xs : List ℕ) (s s₀ : P .State) (d d₀ : List ℕ) → leaves i xs s d ≡ leaves 0 xs s₀ d₀ → length xs ≤ i → d ≡ over (drivesOn P xs s₀) d₀
   drove i xs s s₀ d d₀ e h = ap (λ (z : Left). z .drives) (sym (at-end i xs s d h) ∙ e ∙ from-first xs s₀ d₀)
+
+  -- what every tick keeps, the record keeps
+  pub walk-keeps : (Q : P .State → Type 0) → ((l : Lines) (s : P .State) → Q s → Q (P .tick l s)) → (xs : List ℕ) (s : P .State) → Q s → Q (walk P xs s)
+  unfolding walk
+  walk-keeps Q k [] s h = h
+  walk-keeps Q k (x ∷ xs) s h = walk-keeps Q k xs (P .tick (linesOf x) s) (k (linesOf x) s h)
 
   -- the party is at its end, which it does not leave
   module _ (s : P .State) (over : P .ended s ≡ true) (stays : (l : Lines) → P .tick l s ≡ s) where

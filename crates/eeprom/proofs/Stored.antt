@@ -1,18 +1,16 @@
 -- What a STOP stores: the bytes latched, each at its place in the page of the pointer, and nothing else. Assumes nothing.
 use Prim.Native.Nat.{ℕ, zero, suc, _+_, _*_, _/_, _%_, _≤_, _<_}
-use mathlib.Core.Path.{_≡_, refl, ap, sym, _∙_}
-use mathlib.Core.Bool.{Bool, true, false, _&&_, cond}
-use mathlib.Core.List.{List, [], _∷_}
+use mathlib.Core.Path.{_≡_, refl, _∙_}
+use mathlib.Core.Bool.{Bool, true, false, cond}
+use mathlib.Core.List.{List}
 use native.Mathlib.Omega.{arith}
 use native.Mathlib.Nat.{mod-lt, div-eq-of-lt-le, add-mul, one-mul, div-add-mod'}
-use borrow.Author.Tests.{lt-ltb, le-ltb, le-leb, ltb-true, ltb-false, leb-true, leb-false, eqb-true, eqb-false}
+use borrow.Author.Tests.{lt-ltb, le-ltb, ltb-true, ltb-false, leb-true, leb-false, eqb-true, eqb-false}
 use lib.Dec.{eqb, ltb, leb}
 use lib.ListN.{length, getD, set, length-set}
 use lib.Seq.{getD-set-same, getD-set-other}
-use Rattle.lines.specs.Records.{allWithin}
-use Rattle.eeprom.specs.Pages.{Geometry, geometryOf, pageStart}
+use Rattle.eeprom.specs.Pages.{pageStart}
 use Rattle.eeprom.specs.Keeping.{Kept, geo, storeOne, stored, stops}
-use Rattle.eeprom.proofs.Pages.{Fits}
 
 -- one place
 length-one : (m : List ℕ) (at v : ℕ) → length (storeOne m at v) ≡ length m

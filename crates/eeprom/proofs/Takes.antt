@@ -1,20 +1,32 @@
 -- What the code of the store leans on: which byte is taken, and the latch stored place by place. Assumes nothing.
-use Prim.Native.Nat.{ℕ, zero, suc, _+_, _*_, _-_, _/_, _%_, _≤_, _<_}
+use Prim.Native.Nat.{ℕ, zero, suc, _+_, _-_, _%_, _≤_, _<_}
 use mathlib.Core.Path.{_≡_, refl, ap, sym, _∙_}
-use mathlib.Core.Bool.{Bool, true, false, cond}
+use mathlib.Core.Bool.{Bool, true, false}
 use mathlib.Core.List.{List, [], _∷_}
 use native.Mathlib.Omega.{arith}
 use native.Mathlib.Nat.{suc-le-suc-iff}
 use native.Mathlib.Numerals.{add-one}
 use borrow.Author.Tests.{lt-ltb, le-ltb}
-use lib.ListN.{length, getD, set, replicate, length-set}
-use Rattle.eeprom.specs.Pages.{geometryOf, pageStart, pointerOf}
-use Rattle.eeprom.specs.Keeping.{Kept, geo, keptOf, blankLatch, takesAt, takes, byteNow, stepped, steps, emptied, starts, storeOne, stored, stops}
+use lib.ListN.{length, getD, set, replicate}
+use Rattle.eeprom.specs.Pages.{pageStart, pageStep, readStep, pointerOf}
+use Rattle.eeprom.specs.Keeping.{Kept, geo, keptOf, blankLatch, takesAt, byteNow, stepped, emptied, storeOne, stored, stops}
 use Rattle.eeprom.specs.declared.Store.{Store}
 
 pub blank : replicate 32 256 ≡ blankLatch
 unfolding blankLatch
 blank = refl
+
+-- a data byte goes to its place in the page, and the pointer round in it
+pub latches-data : (s : Store) (p place x : ℕ) → p ≡ pageStep (geo s) (s .pointer) → place ≡ s .pointer % geo s .page → record { name = s .name; model = s .model; pointer = p; want = 0; high = 0; latched = true; latch = set (s .latch) place x } ≡ takesAt 0 x s
+latches-data s p place x h q = rw (h, q)
+
+-- a byte was sent: the pointer goes round in the memory
+pub sends-data : (s : Store) (p : ℕ) → p ≡ readStep (geo s) (s .pointer) → record { name = s .name; model = s .model; pointer = p; want = s .want; high = s .high; latched = s .latched; latch = s .latch } ≡ stepped s
+sends-data s p h = rw h
+
+-- START: so many pointer bytes are to come
+pub begins-anew : (s r : Store) (n : ℕ) → r ≡ emptied n s → n ≡ geo s .lead → r ≡ emptied (geo s .lead) s
+begins-anew s r n h e = h ∙ ap (λ (y : ℕ). emptied y s) e
 
 pub takes-data : (s r : Store) (x : ℕ) → s .want ≡ 0 → r ≡ takesAt 0 x s → r ≡ takesAt (s .want) x s
 takes-data s r x e h = h ∙ ap (λ (n : ℕ). takesAt n x s) (sym e)

@@ -1,19 +1,17 @@
 -- The entry "one chip alone": its refusals in its order, and all that comes out (paper 01, "When the desk says no"). Assumes nothing.
 use Prim.Native.Nat.{ℕ}
-use mathlib.Core.Bool.{Bool, false, not, _&&_, cond}
+use mathlib.Core.Bool.{false, not, _&&_, cond}
 use mathlib.Core.List.{List, []}
 use lib.Dec.{eqb, ltb}
 use lib.ListN.{length}
 use Rattle.lines.specs.Levels.{hi, _∥_}
 use Rattle.lines.specs.Events.{eventOf, eyeAfter, opened}
 use Rattle.lines.specs.Records.{Party, walk, drivesOn, over, no, _then_, badSample}
-use Rattle.lines.specs.declared.Lines.{Lines}
 use Rattle.lines.specs.declared.Eye.{Eye}
 use Rattle.eeprom.specs.Pages.{geometryOf}
 use Rattle.eeprom.specs.Keeping.{Kept}
 use Rattle.eeprom.specs.Stages.{Body, coreOf, bodyTick, sdaOf}
 use Rattle.eeprom.specs.States.{mostBusy, bodyFrom, stateBytes, stateRight}
-use Rattle.eeprom.specs.declared.Model.{Model}
 use Rattle.eeprom.specs.declared.Model.the-variants.{Large}
 use Rattle.eeprom.specs.declared.Watch.{Watch}
 use Rattle.eeprom.specs.declared.Stage.the-variants.{Deaf}

@@ -6,7 +6,6 @@ use mathlib.Core.List.{List}
 use lib.Dec.{ltb}
 use lib.ListN.{getD, set, replicate}
 use Rattle.eeprom.specs.Pages.{Geometry, geometryOf, pageStart, pageStep, readStep, pointerOf}
-use Rattle.eeprom.specs.declared.Model.{Model}
 use Rattle.eeprom.specs.declared.Store.{Store}
 
 pub record Kept : Type 0 where

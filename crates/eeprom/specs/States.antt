@@ -2,12 +2,12 @@
 -- the board"). Assumes nothing.
 use Prim.Native.Nat.{ℕ, _+_, _*_, _/_, _%_}
 use mathlib.Core.Bool.{Bool, false, _&&_}
-use mathlib.Core.List.{List, [], _∷_}
+use mathlib.Core.List.{List, _∷_}
 use lib.Dec.{leb, ltb}
 use lib.ListN.{getD}
 use Rattle.eeprom.specs.Pages.{geometryOf}
-use Rattle.eeprom.specs.Keeping.{Kept, emptied, blankLatch}
-use Rattle.eeprom.specs.Stages.{Core, Body}
+use Rattle.eeprom.specs.Keeping.{Kept, blankLatch}
+use Rattle.eeprom.specs.Stages.{Body}
 use Rattle.eeprom.specs.declared.Model.{Model}
 use Rattle.eeprom.specs.declared.Stage.the-variants.{Deaf}
 

@@ -133,6 +133,8 @@ fn chip_number(
     let size = model.size();
     let pointer = word_at(state, 0);
     let busy = word_at(state, 2);
+    let right = state_right(model, pointer, busy);
+    let fine = all_within(3, samples);
     if 7 < strap {
         return 10;
     }
@@ -142,13 +144,13 @@ fn chip_number(
     if state.len() != 4 {
         return 3;
     }
-    if !state_right(model, pointer, busy) {
+    if !right {
         return 4;
     }
     if MOST_BUSY < asked {
         return 6;
     }
-    if !all_within(3, samples) {
+    if !fine {
         return 8;
     }
     if drives.len() < samples.len() {

@@ -1,4 +1,5 @@
 use borrow.Author.Needs.{needs}
+use Rattle.eeprom.proofs.Takes.{latches-data}
 use Rattle.eeprom.proofs.Store.latches.Statement.{statement}
 use Rattle.eeprom.proofs.Store.latches.Tie as tie
 
@@ -9,4 +10,4 @@ latches-spec =
     (λ c κs. search needs)
     (λ c. search needs)
     (λ c. search needs)
-    (λ c. rw (c .place .ensures .is, c .before .page-step .ensures)))
+    (λ c. search latches-data))

@@ -1,4 +1,5 @@
 use borrow.Author.Needs.{needs}
+use Rattle.eeprom.proofs.Takes.{begins-anew}
 use Rattle.eeprom.proofs.Store.starts.Statement.{statement}
 use Rattle.eeprom.proofs.Store.starts.Tie as tie
 
@@ -7,4 +8,4 @@ starts-spec =
     tie.close (tie.spec
     (λ c κs. search needs)
     (λ c κs. search needs)
-    (λ c. rw (c .emptied .ensures, c .before .lead .ensures .is)))
+    (λ c. search begins-anew))

@@ -1,4 +1,5 @@
 use borrow.Author.Needs.{needs}
+use Rattle.eeprom.proofs.Takes.{sends-data}
 use Rattle.eeprom.proofs.Store.steps.Statement.{statement}
 use Rattle.eeprom.proofs.Store.steps.Tie as tie
 
@@ -6,4 +7,4 @@ pub steps-spec : {M : Type 1} → statement M
 steps-spec =
     tie.close (tie.spec
     (λ c κs. search needs)
-    (λ c. rw (c .read-step .ensures)))
+    (λ c. search sends-data))
