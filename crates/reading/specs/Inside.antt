@@ -13,10 +13,10 @@ use Rattle.board.specs.declared.Answer.{Answer}
 use Rattle.board.specs.declared.Seat.{Seat}
 use Rattle.reading.specs.Clock.{Clock, symbols, pass}
 use Rattle.reading.specs.Plain.{Cell, World, listens, does, only, messages, started, closes}
-use Rattle.reading.specs.declared.Time.{Time}
-use Rattle.reading.specs.declared.Deed.{Deed}
-use Rattle.reading.specs.declared.Deed.the-variants.{Start, Take, Send}
-use Rattle.reading.specs.declared.Run.{Run}
+use Rattle.reading.specs.declared.time.Time.{Time}
+use Rattle.reading.specs.declared.chips.Deed.{Deed}
+use Rattle.reading.specs.declared.chips.Deed.the-variants.{Start, Take, Send}
+use Rattle.reading.specs.declared.run.Run.{Run}
 
 -- no run gets there: so no sum of ticks or places passes a word
 abbrev pub far : ℕ
@@ -58,10 +58,10 @@ meant Start a t c = true
 meant (Take x) a t c = listens a t c
 meant Send a t c = listens a t c
 
-abbrev pub moves : Deed → (address tick : ℕ) → Cell → Cell
+unfoldable pub moves : Deed → (address tick : ℕ) → Cell → Cell
 moves d a t = only (meant d a t) (keptDoes d)
 
-abbrev pub seatMoves : Deed → (address tick : ℕ) → Seat → Seat
+unfoldable pub seatMoves : Deed → (address tick : ℕ) → Seat → Seat
 seatMoves d a t x = cond (meant d a t (cellAt x [])) (record { chip = record { stage = x .chip .stage; store = storeDoes d (x .chip .store) }; free = x .free }) x
 
 -- after a STOP: busy for the asked time, if a byte was latched

@@ -1,0 +1,4 @@
+pub mod Ticking
+pub mod Deeds
+pub mod Cells
+pub mod Stopping
