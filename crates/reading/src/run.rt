@@ -141,7 +141,7 @@ impl Run {
     }
 
     // The bytes of a read. How many follow the first is the quota's to say.
-    fn reads(self, address: u8, tick: usize, slot: usize, quota: Quota, list: &[u8], holds: &[u8], memory: &[u8], results: &mut [u8]) -> Run
+    fn reads(self, address: u8, tick: usize, slot: usize, quota: Quota, holds: &[u8], memory: &[u8], results: &mut [u8]) -> Run
         requires { ⌜ Sound self (now memory) × (self .time .now + 596736 ≤ far) × (slot + 300 ≤ far) × Few quota ⌝ }
         ensures { λ r. ⌜ Comes (now (holds .entry)) (now (memory .entry)) (now (results .exit))
             (carried (listens address tick) slot (get quota) (worldOf self (now (holds .entry)) (now (memory .entry)) (now (results .entry))))
@@ -204,7 +204,7 @@ impl Run {
         if is_write(kind) {
             return run.writes(address, eighth.now, place.slot, place.at + 3, data_of(kind, asked), list, holds, memory, results);
         }
-        run.reads(address, eighth.now, place.slot, quota_of(kind, asked), list, holds, memory, results)
+        run.reads(address, eighth.now, place.slot, quota_of(kind, asked), holds, memory, results)
     }
 
     // A message and those after it. A critical one that is not answered is the last: what comes after it may rest on its bytes.
