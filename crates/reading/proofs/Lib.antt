@@ -5,3 +5,4 @@ pub mod Stopping
 pub mod Going
 pub mod Bytewise
 pub mod Walking
+pub mod Messages

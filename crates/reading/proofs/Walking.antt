@@ -15,6 +15,9 @@ not-critical said r kind e f = rw (e, f)
 pub beyond-so : (s : List ℕ) (p : Place) (u v : ℕ) → u ≡ sizeAt s (p .at) → v ≡ roomAt s (p .at) → record { at = p .at + u; slot = p .slot + v } ≡ beyond s p
 beyond-so s p u v ue ve = rw (ue, ve)
 
+pub opened-near : (p f : Place) → f ≡ opened p → (f .at ≡ p .at + 3) × (f .slot ≡ p .slot + 1)
+opened-near p f e = (ap (λ (q : Place). q .at) e, ap (λ (q : Place). q .slot) e)
+
 -- the messages still to be passed over
 
 module _ (s : List ℕ) (n : ℕ) (p : Place) (goal : Place) (so-far : after n s p ≡ goal) where

@@ -61,7 +61,7 @@ fn goes_on(said: bool, kind: u8) -> bool
 fn beyond(list: &[u8], place: Place) -> Place
     requires { ⌜ Within place ⌝ }
     ensures value { λ r. ⌜ r ≡ beyond (now (list .entry)) place ⌝ }
-    ensures near { λ r. ⌜ (r .at ≤ place .at + 1024) × (r .slot ≤ place .slot + 1024) ⌝ }
+    ensures near { λ r. ⌜ (place .at ≤ r .at) × (r .at ≤ place .at + 1024) × (r .slot ≤ place .slot + 1024) ⌝ }
 {
     let at = place.at as u32;
     Place {
