@@ -14,7 +14,7 @@ use Rattle.reading.specs.declared.run.Place.{Place}
 -- so early that no sum of places passes a word
 pub record Within (p : Place) : Type 0 where
   pub at : p .at ≤ 1048576
-  pub slot : p .slot ≤ 4294967296
+  pub slot : p .slot ≤ 1099511627776
 
 -- a read asks for so few bytes that their count is a byte
 pub record Few (q : Quota) : Type 0 where

@@ -20,7 +20,7 @@ use Rattle.reading.specs.declared.run.Run.{Run}
 
 -- no run gets there: so no sum of ticks or places passes a word
 abbrev pub far : ℕ
-far = 17592186044416
+far = 1152921504606846976
 
 unfoldable pub timeOf : Time → (holds : List ℕ) → Clock
 timeOf t holds = record { now = t .now; holds = drop (t .next) holds }

@@ -91,9 +91,9 @@ fn opened(place: Place) -> Place
 
 // The place of the next transaction: sent or not, the messages of this one are passed over.
 fn next_batch(list: &[u8], place: Place) -> Place
-    requires { ⌜ (place .at ≤ 4096) × (place .slot ≤ 2147483648) ⌝ }
+    requires { ⌜ (place .at ≤ 65536) × (place .slot ≤ 68719476736) ⌝ }
     ensures value { λ r. ⌜ r ≡ nextBatch (now (list .entry)) place ⌝ }
-    ensures later { λ r. ⌜ (place .at + 3 ≤ r .at) × (r .slot ≤ place .slot + 524288) ⌝ }
+    ensures later { λ r. ⌜ (place .at + 3 ≤ r .at) × (r .at ≤ place .at + 524288) × (r .slot ≤ place .slot + 524288) ⌝ }
 {
     let mut left = others(list, place);
     let first = opened(place);
@@ -209,7 +209,7 @@ impl Run {
 
     // A message and those after it. A critical one that is not answered is the last: what comes after it may rest on its bytes.
     fn messages(self, first: Place, others: u8, list: &[u8], holds: &[u8], memory: &[u8], results: &mut [u8]) -> Run
-        requires { ⌜ Sound self (now memory) × (self .time .now + 268435456 ≤ far) × (first .at ≤ 8192) × (first .slot ≤ 2147483649) ⌝ }
+        requires { ⌜ Sound self (now memory) × (self .time .now + 268435456 ≤ far) × (first .at ≤ 131072) × (first .slot ≤ 137438953472) ⌝ }
         ensures { λ r. ⌜ Comes (now (holds .entry)) (now (memory .entry)) (now (results .exit))
             (messages (slotsAt others (now (list .entry)) (beyond (now (list .entry)) first)) (slotOf (now (list .entry)) first) (worldOf self (now (holds .entry)) (now (memory .entry)) (now (results .entry))))
             (self .time .now + 268435456) r ⌝ }
@@ -270,7 +270,7 @@ impl Run {
 
     // The transaction at a place.
     fn transaction(self, place: Place, list: &[u8], holds: &[u8], asked: u16, memory: &mut [u8], results: &mut [u8]) -> Run
-        requires { ⌜ Sound self (now memory) × (self .time .now + 536870912 ≤ far) × (place .at ≤ 4096) × (place .slot ≤ 2147483648) ⌝ }
+        requires { ⌜ Sound self (now memory) × (self .time .now + 536870912 ≤ far) × (place .at ≤ 65536) × (place .slot ≤ 68719476736) ⌝ }
         ensures { λ r. ⌜ Comes (now (holds .entry)) (now (memory .exit)) (now (results .exit))
             (transaction asked (batchAt (now (list .entry)) place) (worldOf self (now (holds .entry)) (now (memory .entry)) (now (results .entry))))
             (self .time .now + 536870912) r ⌝ }
