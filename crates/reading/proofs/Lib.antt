@@ -8,4 +8,5 @@ pub mod Walking
 pub mod Messages
 pub mod Listed
 pub mod Transactions
+pub mod Counting
 pub mod Entry
