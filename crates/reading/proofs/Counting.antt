@@ -54,3 +54,7 @@ transactions-count asked (t ∷ ts) w =
     let sent : World = messages (t .others) (t .first) begun in
     transactions-count asked ts (closes asked (t .top) sent) ∙ length-map (sent .cells) (stores asked (symbol (sent .clock) .now)) ∙ messages-count (t .others) (t .first) begun
     ∙ length-map (w .cells) (does starts)
+
+-- what the check says of an array in a struct is said of its values, mapped
+pub unmapped : (X Y : Type 0) (f : X → Y) (l : List X) (n : ℕ) → length (map f l) ≡ n → length l ≡ n
+unmapped X Y f l n e = sym (length-map l f) ∙ e

@@ -137,7 +137,7 @@ module _ (list : List ℕ) (marks : ℕ) (memory states held : List ℕ) (asked 
               (ap (λ (n : ℕ). map cellOn (seated n xs memory)) count ∙ sym (cells-are (seated (ones marks) xs memory)) ∙ ap (map cellOf) (loaded-is marks memory states xs loaded seen))
               (started ∙ starts list size results right room)
 
-          module _ (r : Run) (m l st : List ℕ) (ended : Comes held m l (transactions asked (batchesAt (suc (length list)) list (record { at = 0; slot = 0 })) (worldOf begun held memory begun-area)) far r)
+          module _ (r : Run) (m l : List ℕ) (ended : Comes held m l (transactions asked (batchesAt (suc (length list)) list (record { at = 0; slot = 0 })) (worldOf begun held memory begun-area)) far r)
               (all-left : length (r .seats) ≡ 8) where
             last-world : worldOf r held m l ≡ plain list marks memory states held asked results
             unfolding plain
@@ -157,10 +157,10 @@ module _ (list : List ℕ) (marks : ℕ) (memory states held : List ℕ) (asked 
             pub row-long : length states ≡ 4 * r .count
             row-long = wide .1 ∙ ap (λ (n : ℕ). 4 * n) (sym (same-count ∙ count))
 
-            pub ran-so : st ≡ seatRow (r .time .now) (r .count) (r .seats)
+            pub ran-so : (st : List ℕ) → st ≡ seatRow (r .time .now) (r .count) (r .seats)
                 → outcomeOf (record { number = 0; ticks = r .time .now }) m st l ≡ plainRun list marks memory states held asked results
             unfolding plainRun worldOf timeOf cellsOf
-            ran-so se =
+            ran-so st se =
                 let t : ℕ = r .time .now in
                 let ys : List Seated = seated (r .count) (r .seats) m in
                 let me : memories (map (bodyOf t) (map cellOn ys)) ≡ m = memories-are t ys ∙ all-together t (r .count) (r .seats) m left (sym (ended .sound .fits)) in
