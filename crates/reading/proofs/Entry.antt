@@ -1,0 +1,168 @@
+-- The whole entry: refusals in their order, the board as it is loaded, and what is handed back. Assumes nothing.
+use Prim.Native.Nat.{ℕ, zero, suc, _+_, _-_, _*_, _<_, _≤_}
+use native.Mathlib.Nat.{sub-zero}
+use native.Mathlib.Omega.{arith}
+use mathlib.Core.Path.{_≡_, refl, ap, ap₂, sym, _∙_}
+use mathlib.Core.Bool.{Bool, true, false, not, _&&_, cond}
+use mathlib.Core.List.{List, [], _∷_, _++_, map}
+use borrow.Author.Tests.{lt-ltb, le-ltb, eqb-true, ne-eqb}
+use lib.Count.{ones}
+use lib.Dec.{eqb, ltb}
+use lib.ListN.{length, take}
+use Rattle.lines.specs.Levels.{mostHeld}
+use Rattle.lines.specs.Records.{no, _then_, allWithin}
+use Rattle.orders.specs.Form.{transactionsOf}
+use Rattle.orders.specs.Kinds.{mostBytes}
+use Rattle.orders.specs.Results.{areaOf, batches, startArea, checkOf, listNumber}
+use Rattle.orders.specs.Start.{startedOf}
+use Rattle.orders.specs.declared.Break.{Break}
+use Rattle.orders.specs.declared.Checked.{Checked}
+use Rattle.orders.specs.declared.Checked.the-variants.{Accepted, TooLong, Broken}
+use Rattle.orders.proofs.Stands.{Holds, holds}
+use Rattle.orders.proofs.Starts.{starts}
+use Rattle.eeprom.specs.Stages.{Body}
+use Rattle.eeprom.specs.States.{mostBusy}
+use Rattle.board.specs.Marks.{memoryAt, bodies, bodiesFrom, memories, stateRow}
+use Rattle.board.specs.Desk.{Outcome, statesRight, boardNumber, busNumber, refusal, ran}
+use Rattle.board.specs.Seats.{Seated, seated, offset, seatsFrom, seatRow}
+use Rattle.board.specs.Seats as seats
+use Rattle.board.specs.declared.Answer.{Answer}
+use Rattle.board.specs.declared.Seat.{Seat}
+use Rattle.board.proofs.Loading.{loaded-is, loaded-fits}
+use Rattle.board.proofs.Seated.{all-together}
+use Rattle.board.proofs.Saving.{seat-row}
+use Rattle.reading.specs.Plain.{Cell, World, transactions}
+use Rattle.reading.specs.Read.{cellOf, bodyOf, plain, plainRun}
+use Rattle.reading.specs.Inside.{far, timeOf, cellOn, cellsOf, worldOf, Sound, Comes, outcomeOf}
+use Rattle.reading.specs.Along.{batchesAt}
+use Rattle.reading.specs.declared.run.Run.{Run}
+use Rattle.reading.proofs.Listed.{listed}
+use Rattle.reading.proofs.Cells.{cells-length}
+use Rattle.reading.proofs.Counting.{transactions-count}
+
+-- chips as they come and go
+
+cells-are : (xs : List Seated) → map cellOf (map (seats.bodyOf 0) xs) ≡ map cellOn xs
+cells-are [] = refl
+cells-are (x ∷ xs) = ap₂ (λ (f : ℕ) (cs : List Cell). record { kept = cellOn x .kept; free = f } ∷ cs) (sub-zero (x .seat .free)) (cells-are xs)
+
+memories-are : (t : ℕ) (xs : List Seated) → memories (map (bodyOf t) (map cellOn xs)) ≡ memories (map (seats.bodyOf t) xs)
+unfolding memories
+memories-are t [] = refl
+memories-are t (x ∷ xs) = ap (λ (l : List ℕ). x .memory ++ l) (memories-are t xs)
+
+states-are : (t : ℕ) (xs : List Seated) → stateRow (map (bodyOf t) (map cellOn xs)) ≡ stateRow (map (seats.bodyOf t) xs)
+unfolding stateRow
+states-are t [] = refl
+states-are t (x ∷ xs) = rw (states-are t xs)
+
+-- a board that is not turned down has its memory and states whole
+
+abbrev rest : (marks : ℕ) → (memory states held : List ℕ) → (asked : ℕ) → ℕ
+rest marks memory states held asked = no 4 (not (statesRight (bodies marks memory states))) then no 5 (not (allWithin mostHeld held)) then no 6 (ltb mostBusy asked)
+
+board-fits : (marks : ℕ) (memory states held : List ℕ) (asked : ℕ) → boardNumber marks memory states held asked ≡ 0 → (length memory ≡ memoryAt marks 8) × (length states ≡ 4 * ones marks)
+unfolding boardNumber
+board-fits marks memory states held asked e = cases (eqb (length memory) (memoryAt marks 8)) refl (eqb (length states) (4 * ones marks)) refl e
+  where
+    cases : (a : Bool) → eqb (length memory) (memoryAt marks 8) ≡ a → (b : Bool) → eqb (length states) (4 * ones marks) ≡ b
+        → no 3 (not (a && b)) then rest marks memory states held asked ≡ 0 → (length memory ≡ memoryAt marks 8) × (length states ≡ 4 * ones marks)
+    cases true ae true be e = (eqb-true _ _ ae, eqb-true _ _ be)
+    cases true ae false be e = let z : _≡_ {A = ℕ} 0 1 = cc in absurd (omega arith)
+    cases false ae b be e = let z : _≡_ {A = ℕ} 0 1 = cc in absurd (omega arith)
+
+-- what the desk turns down
+
+module _ (list : List ℕ) (marks : ℕ) (memory states held : List ℕ) (asked : ℕ) (results : List ℕ) where
+  abbrev number : ℕ
+  number = busNumber list marks memory states held asked results
+
+  turned-down : (n : ℕ) (a : Answer) → number ≡ suc n → a ≡ record { number = suc n; ticks = 0 } → outcomeOf a memory states results ≡ plainRun list marks memory states held asked results
+  unfolding plainRun
+  turned-down n a e ae = rw (e, ne-eqb (suc n) 0 (λ z. omega arith), ae)
+
+  pub too-long : (a : Answer) → a ≡ record { number = 1; ticks = 0 } → checkOf list ≡ TooLong → outcomeOf a memory states results ≡ plainRun list marks memory states held asked results
+  unfolding busNumber
+  too-long a ae c = let first : number ≡ 1 = rw c in turned-down 0 a first ae
+
+  pub not-of-the-form : (a : Answer) (b : Break) → a ≡ record { number = 2; ticks = 0 } → checkOf list ≡ Broken b
+      → outcomeOf a memory states results ≡ plainRun list marks memory states held asked results
+  unfolding busNumber
+  not-of-the-form a b ae c = let first : number ≡ 2 = rw c in turned-down 1 a first ae
+
+  module _ (size : ℕ) (right : checkOf list ≡ Accepted size) (n : ℕ) (board : n ≡ boardNumber marks memory states held asked) where
+    after-list : number ≡ n then no 7 (ltb (length results) size)
+    unfolding busNumber
+    after-list = rw (right, ← board, holds list size right .area)
+
+    pub board-wrong : (a : Answer) → a ≡ record { number = n; ticks = 0 } → (n ≡ 0 → ⊥) → outcomeOf a memory states results ≡ plainRun list marks memory states held asked results
+    board-wrong a ae h = cases n after-list ae h
+      where
+        cases : (k : ℕ) → number ≡ k then no 7 (ltb (length results) size) → a ≡ record { number = k; ticks = 0 } → (k ≡ 0 → ⊥)
+            → outcomeOf a memory states results ≡ plainRun list marks memory states held asked results
+        cases zero e ae h = absurd (h refl)
+        cases (suc k) e ae h = turned-down k a e ae
+
+    module _ (fine : n ≡ 0) where
+      pub area-too-small : (a : Answer) → a ≡ record { number = 7; ticks = 0 } → length results < size → outcomeOf a memory states results ≡ plainRun list marks memory states held asked results
+      area-too-small a ae h = turned-down 6 a (after-list ∙ rw (fine, lt-ltb (length results) size h)) ae
+
+      -- accepted
+      module _ (room : size ≤ length results) where
+        none-wrong : number ≡ 0
+        none-wrong = after-list ∙ rw (fine, le-ltb (length results) size room)
+
+        module _ (xs : List Seat) (k : ℕ) (begun-area : List ℕ) (started : begun-area ≡ startedOf list size results) (loaded : take (ones marks) xs ≡ seatsFrom marks states 8 0)
+            (count : k ≡ ones marks) (few : k ≤ 8) (all : length xs ≡ 8) where
+          abbrev begun : Run
+          begun = record { time = record { now = 0; next = 0 }; count = k; seats = xs }
+
+          seen : ones marks ≤ length xs
+          seen = omega arith
+
+          wide : (length memory ≡ memoryAt marks 8) × (length states ≡ 4 * ones marks)
+          wide = board-fits marks memory states held asked (sym board ∙ fine)
+
+          pub begun-sound : Sound begun memory
+          begun-sound = record { few = few; fits = ap (λ (n : ℕ). offset n xs) count ∙ loaded-fits marks memory states xs loaded seen ∙ sym (wide .0) }
+
+          pub short : length list ≤ mostBytes
+          short = holds list size right .short
+
+          first-world : worldOf begun held memory begun-area
+              ≡ record { clock = record { now = 0; holds = held }; cells = map cellOf (bodies marks memory states); log = record { area = startArea (transactionsOf list) results } }
+          unfolding worldOf timeOf cellsOf
+          first-world =
+              ap₂ (λ (cs : List Cell) (l : List ℕ). record { clock = record { now = 0; holds = held }; cells = cs; log = record { area = l } })
+              (ap (λ (n : ℕ). map cellOn (seated n xs memory)) count ∙ sym (cells-are (seated (ones marks) xs memory)) ∙ ap (map cellOf) (loaded-is marks memory states xs loaded seen))
+              (started ∙ starts list size results right room)
+
+          module _ (r : Run) (m l : List ℕ) (ended : Comes held m l (transactions asked (batchesAt (suc (length list)) list (record { at = 0; slot = 0 })) (worldOf begun held memory begun-area)) far r)
+              (all-left : length (r .seats) ≡ 8) where
+            last-world : worldOf r held m l ≡ plain list marks memory states held asked results
+            unfolding plain
+            last-world = ended .is ∙ ap₂ (transactions asked) (listed (suc (length list)) (holds list size right .stands) (omega arith) 0) first-world
+
+            left : r .count ≤ length (r .seats)
+            left = let f = ended .sound .few in omega arith
+
+            -- no chip came or went
+            same-count : r .count ≡ k
+            unfolding worldOf
+            same-count =
+                sym (cells-length (r .count) (r .seats) left m) ∙ ap (λ (w : World). length (w .cells)) (ended .is)
+                ∙ transactions-count asked (batchesAt (suc (length list)) list (record { at = 0; slot = 0 })) (worldOf begun held memory begun-area)
+                ∙ cells-length k xs (let s = seen in omega arith) memory
+
+            pub row-long : length states ≡ 4 * r .count
+            row-long = wide .1 ∙ ap (λ (n : ℕ). 4 * n) (sym (same-count ∙ count))
+
+            pub ran-so : (st : List ℕ) → st ≡ seatRow (r .time .now) (r .count) (r .seats)
+                → outcomeOf (record { number = 0; ticks = r .time .now }) m st l ≡ plainRun list marks memory states held asked results
+            unfolding plainRun worldOf timeOf cellsOf
+            ran-so st se =
+                let t : ℕ = r .time .now in
+                let ys : List Seated = seated (r .count) (r .seats) m in
+                let me : memories (map (bodyOf t) (map cellOn ys)) ≡ m = memories-are t ys ∙ all-together t (r .count) (r .seats) m left (sym (ended .sound .fits)) in
+                let ste : stateRow (map (bodyOf t) (map cellOn ys)) ≡ st = states-are t ys ∙ seat-row t (r .count) (r .seats) m ∙ sym se in
+                rw (none-wrong, ← last-world) (ap₂ (λ (a b : List ℕ). record { answer = record { number = 0; ticks = t }; memory = a; states = b; results = l }) (sym me) (sym ste))

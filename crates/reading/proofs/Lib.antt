@@ -1,0 +1,12 @@
+pub mod Ticking
+pub mod Deeds
+pub mod Cells
+pub mod Stopping
+pub mod Going
+pub mod Bytewise
+pub mod Walking
+pub mod Messages
+pub mod Listed
+pub mod Transactions
+pub mod Counting
+pub mod Entry
