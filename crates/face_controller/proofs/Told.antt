@@ -4,7 +4,7 @@ use mathlib.Core.Path.{_≡_, ap, _∙_}
 use mathlib.Core.List.{List}
 use Rattle.controller.specs.Alone.{Alone}
 use Rattle.controller.specs.declared.Told.{Told}
-use Rattle.face.specs.Ends.{endNumber, toldAs, numbered}
+use Rattle.face_controller.specs.Ends.{endNumber, toldAs, numbered}
 
 pub told-so : (t : Told) (e : ℕ) (drives results : List ℕ) (a : Alone) → record { told = t; drives = drives; results = results } ≡ a → e ≡ endNumber (t .end)
     → toldAs (t .number) e (t .ticks) drives results ≡ numbered a
