@@ -24,9 +24,9 @@ use Rattle.orders.proofs.WholeMessage.{message-inv}
 use Rattle.orders.proofs.Stands.{holds}
 use Rattle.controller.specs.Symbols.{drives, isOver}
 use Rattle.controller.specs.Faults.{isFirst, isTaken, isStuck, faultOf, isClear}
-use Rattle.controller.specs.Ticks.{Ask, first, clocked, end, enter, Control, begun, move, controlTick}
+use Rattle.controller.specs.Ticks.{first, enter, Control, move, controlTick}
 use Rattle.controller.specs.Plan.{Job, opening, reopening, closing, finished, addressing, addressed, writing, wrote, reading, answering, Context, State, asks, does, goOn, refused, writes, reads, carries, opens, step, orders}
-use Rattle.controller.specs.Bound.{bytesOf, clockedOf, mostTicks}
+use Rattle.controller.specs.Bound.{clockedOf, mostTicks}
 use Rattle.controller.specs.Alone.{party, atFirst}
 use Rattle.controller.specs.declared.Symbol.{Symbol}
 use Rattle.controller.specs.declared.Fault.{Fault}
@@ -147,11 +147,6 @@ refuses x = go (isCritical (x .now .message .kind))
     go : (b : Bool) → startOf (cond b (does closing x) (goOn (x .todo) x)) ≤ restMost x
     go true = omega arith
     go false = goes-on (x .todo) x
-
--- eight bits and the ninth symbol
-byte-most : (n : ℕ) → symbolMost + (symbolMost * 8 + n) ≡ byteMost + n
-unfolding symbolMost byteMost mostHeld
-byte-most n = omega arith
 
 writes-on : (n : ℕ) (ys : List ℕ) (x : Context) → startOf (writes n ys x) ≤ byteMost * length ys + restMost x
 unfolding symbolMost byteMost mostHeld

@@ -1,29 +1,29 @@
 -- The entry "controller alone": each refusal by what the code has looked at, and the run over the list's transactions. Assumes nothing.
-use Prim.Native.Nat.{ℕ, zero, suc, _<_, _≤_}
-use mathlib.Core.Path.{_≡_, refl, ap, ap₂, sym, _∙_}
+use Prim.Native.Nat.{ℕ, _<_, _≤_}
+use mathlib.Core.Path.{_≡_, ap, sym, _∙_}
 use mathlib.Core.Bool.{Bool, true, false}
 use mathlib.Core.List.{List}
 use native.Mathlib.Omega.{arith}
 use borrow.Author.Tests.{lt-ltb, le-ltb, ne-eqb}
 use lib.ListN.{length}
-use Rattle.lines.specs.Records.{walk, drivesOn, over, allWithin, badSample}
+use Rattle.lines.specs.Records.{over, allWithin}
 use Rattle.orders.specs.Form.{transactionsOf}
-use Rattle.orders.specs.Results.{areaOf, startArea, batches, checkOf}
+use Rattle.orders.specs.Results.{startArea, batches, checkOf}
 use Rattle.orders.specs.Marks.{Log}
 use Rattle.orders.specs.Start.{startedOf}
 use Rattle.orders.specs.declared.Break.{Break}
 use Rattle.orders.specs.declared.Checked.{Checked}
 use Rattle.orders.specs.declared.Checked.the-variants.{Accepted, TooLong, Broken}
-use Rattle.orders.proofs.Stands.{Holds, holds}
+use Rattle.orders.proofs.Stands.{holds}
 use Rattle.orders.proofs.Starts.{starts}
-use Rattle.controller.specs.Ticks.{Control, begun}
+use Rattle.controller.specs.Ticks.{begun}
 use Rattle.controller.specs.Plan.{State, orders, opens}
 use Rattle.controller.specs.Cursor.{opensAt, Spot, places, controlOf, firstOf}
-use Rattle.controller.specs.Alone.{party, endOf, atFirst, aloneNumber, Alone, ended, turnedDown, alone}
+use Rattle.controller.specs.Alone.{endOf, atFirst, aloneNumber, Alone, ended, alone}
 use Rattle.controller.specs.Running.{ranOn, refusedAs}
 use Rattle.controller.specs.declared.Phase.{Phase}
 use Rattle.controller.specs.declared.Told.{Told}
-use Rattle.controller.proofs.Matches.{Matches, begun-matches, walk-matches, drives-match}
+use Rattle.controller.proofs.Matches.{begun-matches, walk-matches, drives-match}
 use Rattle.controller.proofs.Simulation.{Same, asks-same, nexts-same, fails-same, starts-same}
 
 -- the run by places is the run by transactions

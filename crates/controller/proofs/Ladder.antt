@@ -1,7 +1,7 @@
 -- The fault that is named, a law for each. The premises are what the tests answered, in the order in which they are looked at. Assumes nothing.
 use Prim.Native.Nat.{ℕ}
-use mathlib.Core.Path.{_≡_, refl, _∙_}
-use mathlib.Core.Bool.{Bool, true, false, not, _&&_, _||_, Bool·beq}
+use mathlib.Core.Path.{_≡_}
+use mathlib.Core.Bool.{Bool, true, false, not, _&&_, Bool·beq}
 use lib.Dec.{leb}
 use Rattle.lines.specs.Levels.{mostHeld}
 use Rattle.lines.specs.declared.Lines.{Lines}
@@ -17,20 +17,13 @@ pub taken-is : (ph q : Phase) (s : Symbol) (l : Lines) (r x : Bool) → ph ≡ q
     → (isFirst s && not (l .scl && l .sda)) ≡ isTaken q l → r ≡ isTaken ph l
 taken-is ph q s l r x e f h k = rw (e, ← k, ← f) h
 
-module _ (ph : Phase) (s : Symbol) (n : ℕ) (l : Lines) (e : ph ≡ Two s n) where
-  pub not-low : l .scl ≡ true → false ≡ isStuck ph l
-  not-low h = rw (e, h)
+pub low-for : (ph : Phase) (s : Symbol) (n : ℕ) (l : Lines) → ph ≡ Two s n → l .scl ≡ false → leb 16 n ≡ isStuck ph l
+unfolding mostHeld
+low-for ph s n l e h = rw (e, h)
 
-  pub low-for : l .scl ≡ false → leb 16 n ≡ isStuck ph l
-  unfolding mostHeld
-  low-for h = rw (e, h)
-
-module _ (ph : Phase) (s : Symbol) (w : Bool) (l : Lines) (e : ph ≡ Three s w) where
-  pub not-high : l .scl ≡ false → true ≡ isUndefined ph l
-  not-high h = rw (e, h)
-
-  pub differs-is : (r x : Bool) → l .scl ≡ true → x ≡ isBit s → r ≡ (x && not (Bool·beq w (l .sda))) → r ≡ isUndefined ph l
-  differs-is r x h f g = rw (e, h, ← f) g
+pub differs-is : (ph : Phase) (s : Symbol) (w : Bool) (l : Lines) (r x : Bool) → ph ≡ Three s w → l .scl ≡ true → x ≡ isBit s
+    → r ≡ (x && not (Bool·beq w (l .sda))) → r ≡ isUndefined ph l
+differs-is ph s w l r x e h f g = rw (e, h, ← f) g
 
 module _ (ph : Phase) (was : Bool) (seen d : Lines) (a : Bool) (driven : d ≡ drives ph was) (tested : a ≡ isBroken d seen) where
   pub line-broken : a ≡ true → LineBroken ≡ faultOf ph was seen

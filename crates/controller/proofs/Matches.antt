@@ -1,6 +1,6 @@
 -- Two plans that ask alike, step by step, make two controllers that drive alike, tick by tick, whatever the lines are. Assumes nothing.
 use Prim.Native.Nat.{ℕ, zero, suc}
-use mathlib.Core.Path.{_≡_, refl, ap, ap₂, sym, _∙_}
+use mathlib.Core.Path.{_≡_, refl, ap, ap₂, sym}
 use mathlib.Core.Bool.{Bool, true, false, cond, true≢false}
 use mathlib.Core.List.{List, [], _∷_, _++_}
 use Rattle.lines.specs.Levels.{hi, byteOf, linesOf}
@@ -8,7 +8,7 @@ use Rattle.lines.specs.Records.{walk, driven, drivesOn}
 use Rattle.lines.specs.declared.Lines.{Lines}
 use Rattle.controller.specs.Symbols.{row, drives, isOver}
 use Rattle.controller.specs.Faults.{faultOf, isClear}
-use Rattle.controller.specs.Ticks.{Plan, enter, Control, begun, move, settle, controlTick}
+use Rattle.controller.specs.Ticks.{Plan, enter, Control, begun, move, controlTick}
 use Rattle.controller.specs.Alone.{party}
 use Rattle.controller.specs.declared.Fault.{Fault}
 use Rattle.controller.specs.declared.Phase.{Phase}

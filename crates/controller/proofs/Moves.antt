@@ -1,5 +1,5 @@
 -- A tick without a fault, by the phase that the code has found. Assumes nothing.
-use Prim.Native.Nat.{ℕ, zero, suc, _+_, _-_, _≤_, _<_}
+use Prim.Native.Nat.{ℕ, zero, suc, _+_, _-_, _<_}
 use mathlib.Core.Path.{_≡_, refl, _∙_, sym, ap}
 use mathlib.Core.Bool.{Bool, true, false, cond, true≢false}
 use mathlib.Core.List.{List}
@@ -10,7 +10,7 @@ use lib.Dec.{leb}
 use lib.ListN.{set}
 use Rattle.lines.specs.Levels.{mostHeld}
 use Rattle.lines.specs.declared.Lines.{Lines}
-use Rattle.controller.specs.Symbols.{row, drives, isOver}
+use Rattle.controller.specs.Symbols.{drives, isOver}
 use Rattle.orders.specs.Marks.{note}
 use Rattle.controller.specs.Faults.{isBroken, isTaken, isStuck, faultOf, outcomeOf, isClear}
 use Rattle.controller.specs.Ticks.{Plan, enter, Control, inPhase, move, settle, controlTick}

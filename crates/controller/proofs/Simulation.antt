@@ -9,20 +9,20 @@ use borrow.Author.Tests.{lt-ltb, le-ltb, leb-true, eq-eqb, ne-eqb}
 use lib.Dec.{eqb}
 use lib.ListN.{length, getD, take, drop}
 use lib.Seq.{drop-cons}
-use Rattle.lines.specs.Levels.{bitAt, shifted}
+use Rattle.lines.specs.Levels.{bitAt}
 use Rattle.orders.specs.Kinds.{mostBytes, isWrite, isCritical, addressRight, dataOf, quotaOf, follow, remain}
-use Rattle.orders.specs.Form.{Message, Transaction, whole, messageAt, waitAt}
+use Rattle.orders.specs.Form.{Message, Transaction, whole, messageAt}
 use Rattle.orders.specs.Asking.{put, get, orderOf, addressByte}
 use Rattle.orders.specs.Places.{Stands, ended, begins, follows, sizeAt, roomAt}
 use Rattle.orders.specs.Results.{Slotted, Batch, slotsOf, slotsOfAll, slotted, batches}
 use Rattle.orders.specs.Marks.{heard, written, closed, broke, readMark, Log, note}
 use Rattle.orders.specs.declared.Quota.{Quota}
 use Rattle.orders.proofs.KindLaws.{most-bytes, short-length, data-written, follow-remain}
-use Rattle.orders.proofs.WholeMessage.{IsMessage, message-inv, message-size, message-room, message-below, message-slots}
+use Rattle.orders.proofs.WholeMessage.{message-inv, message-size, message-room, message-below, message-slots}
 use Rattle.controller.specs.Faults.{outcomeOf}
-use Rattle.controller.specs.Ticks.{Ask, clocked}
-use Rattle.controller.specs.Plan.{Job, opening, reopening, closing, finished, addressing, addressed, writing, wrote, reading, answering, Context, State, asks, does, logged, marked, goOn, refused, writes, reads, carries, nothing, opens, step, orders}
-use Rattle.controller.specs.Cursor.{wrap, acts, carriesOn, counted, nowhere, kindAt, lengthAt, addressAt, dataAt, passed, passedAll, goesOn, refusedBy, putsOn, getsOn, carriesOut, opensAt, opensAfter, stepIn, stepOf, noteIn, noteOf, askIn, askOf, Spot, places}
+use Rattle.controller.specs.Ticks.{clocked}
+use Rattle.controller.specs.Plan.{Job, opening, reopening, closing, finished, addressing, addressed, writing, wrote, reading, answering, Context, State, asks, does, marked, goOn, refused, writes, reads, carries, opens, step, orders}
+use Rattle.controller.specs.Cursor.{wrap, acts, carriesOn, addressAt, dataAt, passed, passedAll, goesOn, refusedBy, putsOn, getsOn, carriesOut, opensAt, opensAfter, stepIn, stepOf, noteIn, noteOf, askIn, askOf, Spot, places}
 use Rattle.controller.specs.declared.Symbol.the-variants.{Sent}
 use Rattle.controller.specs.declared.Fault.{Fault}
 use Rattle.controller.specs.declared.Act.{Act}

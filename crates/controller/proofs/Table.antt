@@ -1,5 +1,5 @@
 -- What the table of symbols says, by the symbol or the phase that the code has found. Assumes nothing.
-use mathlib.Core.Path.{_≡_, refl, _∙_}
+use mathlib.Core.Path.{_≡_, _∙_}
 use mathlib.Core.Bool.{Bool}
 use Rattle.lines.specs.declared.Lines.{Lines}
 use Rattle.controller.specs.Symbols.{row, drives}

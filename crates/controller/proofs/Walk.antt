@@ -4,25 +4,22 @@ use mathlib.Core.Path.{_≡_, refl, ap, sym, _∙_}
 use mathlib.Core.Bool.{Bool, true, false, not, cond}
 use mathlib.Core.List.{List}
 use native.Mathlib.Omega.{arith}
-use native.Mathlib.Numerals.{add-one}
 use borrow.Author.Tests.{lt-ltb, le-ltb, eq-eqb, ne-eqb}
 use lib.Dec.{eqb}
 use lib.ListN.{length, getD, set}
-use Rattle.lines.specs.Levels.{digit, bitAt, shifted}
+use Rattle.lines.specs.Levels.{bitAt, shifted}
 use Rattle.orders.specs.Kinds.{isWrite, isCritical, quotaOf, follow, remain}
-use Rattle.orders.specs.Form.{waitAt}
-use Rattle.orders.specs.Marks.{Log, note, noteArea, readMark}
+use Rattle.orders.specs.Marks.{note, readMark}
 use Rattle.orders.specs.Places.{sizeAt, roomAt}
 use Rattle.orders.specs.declared.Quota.{Quota}
-use Rattle.controller.specs.Ticks.{Ask, enter}
-use Rattle.controller.specs.Cursor.{wrap, acts, carriesOn, counted, nowhere, kindAt, lengthAt, addressAt, dataAt, passed, passedAll, goesOn, refusedBy, putsOn, getsOn, carriesOut, opensAt, stepIn, stepOf, noteIn, noteOf, askIn, askOf}
+use Rattle.controller.specs.Ticks.{enter}
+use Rattle.controller.specs.Cursor.{wrap, acts, carriesOn, counted, nowhere, addressAt, dataAt, passed, passedAll, goesOn, refusedBy, putsOn, getsOn, carriesOut, opensAt, stepIn, stepOf, noteIn, noteOf, askIn, askOf}
 use Rattle.controller.specs.declared.Begin.the-variants.{First}
-use Rattle.controller.specs.declared.Symbol.{Symbol}
 use Rattle.controller.specs.declared.Symbol.the-variants.{Start, Sent}
 use Rattle.controller.specs.declared.Phase.{Phase}
 use Rattle.controller.specs.declared.Phase.the-variants.{Zero, Waiting}
 use Rattle.controller.specs.declared.Act.{Act}
-use Rattle.controller.specs.declared.Act.the-variants.{Opens, Reopens, Closes, Finishes, Addresses, Hears, Puts, Awaits, Gets, Answers}
+use Rattle.controller.specs.declared.Act.the-variants.{Opens, Reopens, Closes, Addresses, Hears, Puts, Awaits, Gets, Answers}
 use Rattle.controller.specs.declared.Cursor.{Cursor}
 
 module _ (list : List ℕ) where

@@ -1,6 +1,6 @@
 -- The entry "controller alone": its refusals in its order, and all that comes out (paper 01, "When the desk says no"). Assumes nothing.
 use Prim.Native.Nat.{ℕ}
-use mathlib.Core.Bool.{Bool, true, false, cond}
+use mathlib.Core.Bool.{cond}
 use mathlib.Core.List.{List}
 use lib.Dec.{eqb, ltb}
 use lib.ListN.{length}
@@ -10,7 +10,6 @@ use Rattle.orders.specs.Results.{areaOf, startArea, batches, checkOf, listNumbe
 use Rattle.controller.specs.Symbols.{drives, isOver}
 use Rattle.controller.specs.Ticks.{Plan, Control, begun, controlTick}
 use Rattle.controller.specs.Plan.{State, orders, opens}
-use Rattle.controller.specs.declared.Fault.{Fault}
 use Rattle.controller.specs.declared.Fault.the-variants.{Clear, DataLost, ClockStuck, Undefined, NotFree, LineBroken}
 use Rattle.controller.specs.declared.Phase.{Phase}
 use Rattle.controller.specs.declared.Phase.the-variants.{Over, Waiting, Zero, One, Two, Three}

@@ -1,6 +1,6 @@
 -- Inside: a tick without a fault as the code goes about it, phase by phase; no entry cites it. That these are the parts of Ticks.antt's `move` is shown in
 -- proofs/Moves.antt. Assumes nothing.
-use Prim.Native.Nat.{ℕ, zero, suc}
+use Prim.Native.Nat.{zero, suc}
 use mathlib.Core.Bool.{Bool, true, false, cond}
 use Rattle.lines.specs.declared.Lines.{Lines}
 use Rattle.controller.specs.declared.Begin.the-variants.{First}

@@ -12,7 +12,6 @@ use Rattle.orders.specs.Marks.{Mark, heard, written, closed, broke, readMark, L
 use Rattle.orders.specs.declared.Quota.{Quota}
 use Rattle.controller.specs.Faults.{outcomeOf}
 use Rattle.controller.specs.Ticks.{Ask, first, clocked, end, Plan}
-use Rattle.controller.specs.declared.Fault.{Fault}
 use Rattle.controller.specs.declared.Begin.the-variants.{Repeated}
 use Rattle.controller.specs.declared.Symbol.the-variants.{Start, Stop, Sent, Received}
 

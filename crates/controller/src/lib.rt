@@ -142,8 +142,8 @@ impl Controller {
         phase.is_over()
     }
 
-    // One tick, in which the lines are seen. Results are written where a ninth symbol or a STOP ends, and where a fault is seen: a byte that is noted
-    // earlier would be noted twice if the symbol then fails.
+    // One tick, in which the lines are seen. Results are written in the tick that ends a ninth symbol or a STOP, and where a fault is seen: noted any
+    // earlier, a byte whose ninth symbol then fails would count.
     pub fn tick(self, seen: Lines, list: &[u8], area: &mut [u8]) -> Controller
         ensures { λ r. ⌜ controlOf r (now (area .exit)) ≡ controlTick (places (now (list .entry))) seen (controlOf self (now (area .entry))) ⌝ }
     {

@@ -112,7 +112,7 @@ impl Phase {
             Phase::Waiting(_) => false,
             Phase::Zero(_) => false,
             Phase::One(_) => false,
-            Phase::Two(_, _) => false, // a result noted here would be noted twice
+            Phase::Two(_, _) => false, // a result noted here would stand although phase 3 may fail
             Phase::Three(_, _) => true,
         }
     }

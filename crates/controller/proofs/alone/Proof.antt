@@ -1,3 +1,4 @@
+-- `controller::alone` meets its contract. Assumes nothing.
 use borrow.Author.Needs.{needs}
 use Rattle.controller.proofs.Entry.{number-1, number-2, number-8, number-9, number-7, number-0}
 use Rattle.controller.proofs.alone.Statement.{statement}

@@ -1,7 +1,7 @@
+-- `controller::run` meets its contract. The loop keeps that what is still to come, from the tick t on, is the answer. Assumes nothing.
 use borrow.Author.Needs.{needs}
 use Prim.Native.Nat.{_-_, _≤_}
 use mathlib.Core.Path.{_≡_, refl, _∙_}
-use native.Mathlib.Omega.{arith}
 use lib.ListN.{length, drop, length-set}
 use Rattle.controller.specs.Cursor.{controlOf, firstOf}
 use Rattle.controller.specs.Running.{ranOn}

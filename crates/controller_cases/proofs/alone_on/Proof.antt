@@ -1,3 +1,4 @@
+-- `controller_cases::alone_on` meets its contract. Assumes nothing.
 use borrow.Author.Needs.{needs}
 use Rattle.controller_cases.proofs.Laws.{part-length}
 use Rattle.controller_cases.proofs.alone_on.Statement.{statement}

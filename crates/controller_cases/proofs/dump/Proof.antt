@@ -1,3 +1,4 @@
+-- `controller_cases::dump` meets its contract. Assumes nothing.
 use borrow.Author.Needs.{needs}
 use Prim.Native.Nat.{_-_}
 use lib.ListN.{length}

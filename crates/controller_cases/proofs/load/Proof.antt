@@ -1,3 +1,4 @@
+-- `controller_cases::load` meets its contract. The loop keeps the length. Assumes nothing.
 use borrow.Author.Needs.{needs}
 use Prim.Native.Nat.{_-_}
 use mathlib.Core.Path.{_≡_}

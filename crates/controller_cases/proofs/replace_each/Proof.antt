@@ -1,3 +1,4 @@
+-- `controller_cases::replace_each` meets its contract. Assumes nothing.
 use borrow.Author.Needs.{needs}
 use Prim.Native.Nat.{_-_}
 use Rattle.controller_cases.proofs.replace_each.Statement.{statement}

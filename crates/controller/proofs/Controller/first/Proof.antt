@@ -1,3 +1,4 @@
+-- `controller::Controller::first` meets its contract. Assumes nothing.
 use borrow.Author.Needs.{needs}
 use Rattle.controller.proofs.Moves.{first-is}
 use Rattle.controller.proofs.Controller.first.Statement.{statement}

@@ -1,3 +1,4 @@
+-- `controller::Cursor::address` meets its contract. Assumes nothing.
 use borrow.Author.Needs.{needs}
 use Rattle.controller.proofs.Walk.{address-is}
 use Rattle.controller.proofs.Cursor.address.Statement.{statement}

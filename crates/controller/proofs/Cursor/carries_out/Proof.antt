@@ -1,3 +1,4 @@
+-- `controller::Cursor::carries_out` meets its contract. Assumes nothing.
 use borrow.Author.Needs.{needs}
 use Rattle.controller.proofs.Walk.{is-write, is-read}
 use Rattle.controller.proofs.Cursor.carries_out.Statement.{statement}

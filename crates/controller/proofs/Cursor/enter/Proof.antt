@@ -1,3 +1,4 @@
+-- `controller::Cursor::enter` meets its contract. Assumes nothing.
 use borrow.Author.Needs.{needs}
 use Rattle.controller.proofs.Walk.{enters, enters-at-once, enters-wait, enters-address, enters-data, enters-answer}
 use Rattle.controller.proofs.Cursor.enter.Statement.{statement}

@@ -1,3 +1,4 @@
+-- `controller::Cursor::gets_on` meets its contract. Assumes nothing.
 use borrow.Author.Needs.{needs}
 use Rattle.controller.proofs.Walk.{no-more-got, gets-one}
 use Rattle.controller.proofs.Cursor.gets_on.Statement.{statement}

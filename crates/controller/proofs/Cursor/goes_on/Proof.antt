@@ -1,3 +1,4 @@
+-- `controller::Cursor::goes_on` meets its contract. Assumes nothing.
 use borrow.Author.Needs.{needs}
 use Rattle.controller.proofs.Walk.{last-message, next-message}
 use Rattle.controller.proofs.Cursor.goes_on.Statement.{statement}

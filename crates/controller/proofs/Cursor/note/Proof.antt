@@ -1,3 +1,4 @@
+-- `controller::Cursor::note` meets its contract. Assumes nothing.
 use borrow.Author.Needs.{needs}
 use Rattle.controller.proofs.Walk.{noted, noted-closed, noted-heard, noted-written, noted-got, not-heard, not-written}
 use Rattle.controller.proofs.Cursor.note.Statement.{statement}

@@ -1,3 +1,4 @@
+-- `controller::Cursor::opens_at` meets its contract. Assumes nothing.
 use borrow.Author.Needs.{needs}
 use Rattle.controller.proofs.Walk.{opens-one, opens-none}
 use Rattle.controller.proofs.Cursor.opens_at.Statement.{statement}

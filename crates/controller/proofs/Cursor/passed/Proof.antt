@@ -1,3 +1,4 @@
+-- `controller::Cursor::passed` meets its contract. Assumes nothing.
 use borrow.Author.Needs.{needs}
 use Rattle.controller.proofs.Walk.{passes}
 use Rattle.controller.proofs.Cursor.passed.Statement.{statement}

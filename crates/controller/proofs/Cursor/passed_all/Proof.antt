@@ -1,3 +1,4 @@
+-- `controller::Cursor::passed_all` meets its contract. The loop keeps that what is left to pass leads to the same place. Assumes nothing.
 use borrow.Author.Needs.{needs}
 use mathlib.Core.Path.{_≡_}
 use Rattle.controller.specs.Cursor.{passedAll}

@@ -1,3 +1,4 @@
+-- `controller::Cursor::puts_on` meets its contract. Assumes nothing.
 use borrow.Author.Needs.{needs}
 use Rattle.controller.proofs.Walk.{no-more-put, puts-one}
 use Rattle.controller.proofs.Cursor.puts_on.Statement.{statement}

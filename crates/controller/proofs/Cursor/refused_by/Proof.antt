@@ -1,3 +1,4 @@
+-- `controller::Cursor::refused_by` meets its contract. Assumes nothing.
 use borrow.Author.Needs.{needs}
 use Rattle.controller.proofs.Walk.{is-critical, is-not}
 use Rattle.controller.proofs.Cursor.refused_by.Statement.{statement}

@@ -1,3 +1,4 @@
+-- `controller::Cursor::step` meets its contract. Assumes nothing.
 use borrow.Author.Needs.{needs}
 use Rattle.controller.proofs.Walk.{step-is, step-closes, step-addressed, step-addresses, step-awaits, step-puts, step-answers, step-gets, step-refused, step-unwritten, step-carries, step-wrote, step-got}
 use Rattle.controller.proofs.Cursor.step.Statement.{statement}

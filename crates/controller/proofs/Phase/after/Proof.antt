@@ -1,3 +1,4 @@
+-- `controller::Phase::after` meets its contract. Assumes nothing.
 use borrow.Author.Needs.{needs}
 use Rattle.controller.proofs.Moves.{wait-over, waits-on, rises, held-on, after-is, room-to-hold}
 use Rattle.controller.proofs.Phase.after.Statement.{statement}

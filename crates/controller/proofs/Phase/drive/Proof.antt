@@ -1,3 +1,4 @@
+-- `controller::Phase::drive` meets its contract. Assumes nothing.
 use borrow.Author.Needs.{needs}
 use Rattle.controller.proofs.Table.{drive-is}
 use Rattle.controller.proofs.Phase.drive.Statement.{statement}

@@ -1,3 +1,4 @@
+-- `controller::Phase::end` meets its contract. Assumes nothing.
 use borrow.Author.Needs.{needs}
 use Rattle.controller.proofs.Record.{end-is}
 use Rattle.controller.proofs.Phase.end.Statement.{statement}

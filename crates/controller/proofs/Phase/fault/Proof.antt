@@ -1,3 +1,4 @@
+-- `controller::Phase::fault` meets its contract. Assumes nothing.
 use borrow.Author.Needs.{needs}
 use Rattle.controller.proofs.Ladder.{line-broken, not-free, clock-stuck, undefined, data-lost, clear}
 use Rattle.controller.proofs.Phase.fault.Statement.{statement}

@@ -1,5 +1,6 @@
+-- `controller::Phase::is_stuck` meets its contract. Assumes nothing.
 use borrow.Author.Needs.{needs}
-use Rattle.controller.proofs.Ladder.{not-low, low-for}
+use Rattle.controller.proofs.Ladder.{low-for}
 use Rattle.controller.proofs.Phase.is_stuck.Statement.{statement}
 use Rattle.controller.proofs.Phase.is_stuck.Tie as tie
 

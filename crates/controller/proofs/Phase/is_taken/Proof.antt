@@ -1,3 +1,4 @@
+-- `controller::Phase::is_taken` meets its contract. Assumes nothing.
 use borrow.Author.Needs.{needs}
 use Rattle.controller.proofs.Ladder.{taken-is}
 use Rattle.controller.proofs.Phase.is_taken.Statement.{statement}

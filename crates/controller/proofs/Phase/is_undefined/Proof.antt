@@ -1,5 +1,6 @@
+-- `controller::Phase::is_undefined` meets its contract. Assumes nothing.
 use borrow.Author.Needs.{needs}
-use Rattle.controller.proofs.Ladder.{not-high, differs-is}
+use Rattle.controller.proofs.Ladder.{differs-is}
 use Rattle.controller.proofs.Phase.is_undefined.Statement.{statement}
 use Rattle.controller.proofs.Phase.is_undefined.Tie as tie
 

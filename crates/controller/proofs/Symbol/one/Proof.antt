@@ -1,3 +1,4 @@
+-- `controller::Symbol::one` meets its contract. Assumes nothing.
 use borrow.Author.Needs.{needs}
 use Rattle.controller.proofs.Table.{row-one, start-one}
 use Rattle.controller.proofs.Symbol.one.Statement.{statement}

@@ -1,3 +1,4 @@
+-- `controller::Symbol::three` meets its contract. Assumes nothing.
 use borrow.Author.Needs.{needs}
 use Rattle.controller.proofs.Table.{row-three, start-three}
 use Rattle.controller.proofs.Symbol.three.Statement.{statement}

@@ -1,3 +1,4 @@
+-- `controller::Symbol::two` meets its contract. Assumes nothing.
 use borrow.Author.Needs.{needs}
 use Rattle.controller.proofs.Table.{row-two, start-two}
 use Rattle.controller.proofs.Symbol.two.Statement.{statement}

@@ -1,3 +1,4 @@
+-- `controller::Symbol::zero` meets its contract. Assumes nothing.
 use borrow.Author.Needs.{needs}
 use Rattle.controller.proofs.Table.{row-zero, start-zero}
 use Rattle.controller.proofs.Symbol.zero.Statement.{statement}

@@ -1,3 +1,4 @@
+-- `controller::faults::differs` meets its contract. Assumes nothing.
 use borrow.Author.Needs.{needs}
 use Rattle.controller.proofs.faults.differs.Statement.{statement}
 use Rattle.controller.proofs.faults.differs.Tie as tie
