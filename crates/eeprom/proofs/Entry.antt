@@ -15,12 +15,9 @@ use Rattle.lines.specs.declared.Lines.{Lines}
 use Rattle.lines.specs.declared.Eye.{Eye}
 use Rattle.lines.specs.declared.Event.{Event}
 use Rattle.eeprom.specs.Pages.{geometryOf}
-use Rattle.eeprom.specs.Keeping.{Kept, keptOf}
 use Rattle.eeprom.specs.Stages.{Core, coreOf, hears, sdaOf, busyAfter, bodyTick}
-use Rattle.eeprom.specs.States.{mostBusy, wordAt, wordBytes, keptAt, bodyFrom, stateBytes, stateRight}
+use Rattle.eeprom.specs.States.{mostBusy, wordAt, wordBytes, bodyAt, bodyFrom, stateBytes, stateRight}
 use Rattle.eeprom.specs.Alone.{Watching, watchOf, restOf, chip, chipNumber, leftBy, chipAlone}
-use Rattle.eeprom.specs.declared.Store.{Store}
-use Rattle.eeprom.specs.declared.Stage.the-variants.{Deaf}
 use Rattle.eeprom.specs.declared.Chip.{Chip}
 use Rattle.eeprom.specs.declared.Watch.{Watch}
 use Rattle.eeprom.specs.declared.Model.{Model}
@@ -117,11 +114,11 @@ module _ (strap asked : ℕ) (memory state samples drives : List ℕ) where
     pub asked-in : asked ≤ mostBusy
     asked-in = ltb-false mostBusy asked (not-said 5 (ltb mostBusy asked) (none-first (no 6 (ltb mostBusy asked)) _ (none-later (no 4 (not state-in)) _ after-3)))
 
-pub rests : (eye : Eye) (s : Store) (name : ℕ) (model : Model) (p busy : ℕ) → eye ≡ opened → ((m : List ℕ) → keptOf s m ≡ keptAt name model p m) → (m : List ℕ) → watchOf (record { eye = eye; chip = record { stage = Deaf; store = s }; busy = busy }) m ≡ restOf (keptAt name model p m) busy
-rests eye s name model p busy q h m = rw q (ap (λ (k : Kept). restOf k busy) (h m))
-
 abbrev seeing : Eye → Core → ℕ → Watching
 seeing eye c busy = record { eye = eye; body = record { core = c; busy = busy } }
+
+pub rests : (eye : Eye) (c : Chip) (name : ℕ) (model : Model) (p busy : ℕ) → eye ≡ opened → ((m : List ℕ) → coreOf c m ≡ bodyAt name model p 0 m .core) → (m : List ℕ) → watchOf (record { eye = eye; chip = c; busy = busy }) m ≡ restOf (bodyAt name model p busy m)
+rests eye c name model p busy q h m = rw q (ap (λ (k : Core). seeing opened k busy) (h m))
 
 -- one tick of the chip with its eye
 pub ticked : (w : Watch) (m n : List ℕ) (asked : ℕ) (l : Lines) (e : Event) (eye : Eye) (k : Chip) (busy : ℕ) → e ≡ eventOf (w .eye) l → ((m : List ℕ) → busy ≡ busyAfter asked e (coreOf (w .chip) m) (w .busy)) → coreOf k n ≡ hears (eqb (w .busy) 0) e (coreOf (w .chip) m) → eye ≡ eyeAfter (w .eye) l → watchOf (record { eye = eye; chip = k; busy = busy }) n ≡ chip asked .tick l (watchOf w m)
@@ -161,9 +158,9 @@ module _ (strap asked : ℕ) (memory state samples drives : List ℕ) where
   turned-down n e h = rw (← e, ne-eqb n 0 h)
 
   abbrev first : Watching
-  first = record { eye = opened; body = bodyFrom strap Large memory state 0 }
+  first = restOf (bodyFrom strap Large memory state 0)
 
-  pub ran : (n p b : ℕ) (w₀ w : Watch) (m d s : List ℕ) → n ≡ chipNumber strap memory state asked samples drives → n ≡ 0 → p ≡ wordAt state 0 → b ≡ wordAt state 2 → ((k : List ℕ) → watchOf w₀ k ≡ restOf (keptAt (80 + strap) Large p k) b) → watchOf w m ≡ walk (chip asked) samples (watchOf w₀ memory) → d ≡ over (drivesOn (chip asked) samples (watchOf w₀ memory)) drives → s ≡ over (wordBytes (w .chip .store .pointer) (wordBytes (w .busy) [])) state → leftBy (record { number = 0; ticks = length samples }) m s d ≡ chipAlone strap memory state asked samples drives
+  pub ran : (n p b : ℕ) (w₀ w : Watch) (m d s : List ℕ) → n ≡ chipNumber strap memory state asked samples drives → n ≡ 0 → p ≡ wordAt state 0 → b ≡ wordAt state 2 → ((k : List ℕ) → watchOf w₀ k ≡ restOf (bodyAt (80 + strap) Large p b k)) → watchOf w m ≡ walk (chip asked) samples (watchOf w₀ memory) → d ≡ over (drivesOn (chip asked) samples (watchOf w₀ memory)) drives → s ≡ over (wordBytes (w .chip .store .pointer) (wordBytes (w .busy) [])) state → leftBy (record { number = 0; ticks = length samples }) m s d ≡ chipAlone strap memory state asked samples drives
   unfolding chipAlone
   ran n p b w₀ w m d s e z pe be rest we de se =
       let row : s ≡ stateBytes (watchOf w m .body) [] = se ∙ over-whole _ state (sym (four-bytes strap asked memory state samples drives n e z)) in

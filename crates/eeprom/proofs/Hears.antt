@@ -10,6 +10,8 @@ use Rattle.lines.specs.declared.Event.{Event}
 use Rattle.lines.specs.declared.Event.the-variants.{Quiet, Started, Stopped, Bit}
 use Rattle.eeprom.specs.Keeping.{Kept, geo, keptOf, takesAt, takes, byteNow, stepped, steps, emptied, starts, stops}
 use Rattle.eeprom.specs.Stages.{Core, coreOf, at, named, answered, bitTo, due, hears, busyAfter}
+use Rattle.eeprom.specs.States.{keptAt, bodyAt}
+use Rattle.eeprom.specs.declared.Model.{Model}
 use Rattle.eeprom.specs.declared.Chip.{Chip}
 use Rattle.eeprom.specs.declared.Store.{Store}
 use Rattle.eeprom.specs.declared.Stage.{Stage}
@@ -111,3 +113,7 @@ module _ (c : Chip) (m : List ℕ) (asked n : ℕ) (e : Event) where
 
   pub falls-at-bit : (b : Bool) (r : ℕ) → e ≡ Bit b → r ≡ n - 1 → r ≡ busyAfter asked e (coreOf c m) n
   falls-at-bit b r q h = rw q h
+
+-- before the first tick
+pub rests-deaf : (s : Store) (name : ℕ) (model : Model) (p : ℕ) → ((m : List ℕ) → keptOf s m ≡ keptAt name model p m) → (m : List ℕ) → coreOf (record { stage = Deaf; store = s }) m ≡ bodyAt name model p 0 m .core
+rests-deaf s name model p h m = ap (λ (k : Kept). deafWith k) (h m)

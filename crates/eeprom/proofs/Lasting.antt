@@ -7,14 +7,13 @@ use native.Mathlib.Omega.{arith}
 use borrow.Author.Tests.{lt-ltb, le-leb, ltb-true, leb-true}
 use lib.Dec.{eqb, ltb, leb}
 use lib.ListN.{length}
-use Rattle.lines.specs.Events.{opened}
 use Rattle.lines.specs.Records.{walk, allWithin}
 use Rattle.lines.specs.declared.Event.{Event}
 use Rattle.lines.specs.declared.Event.the-variants.{Quiet, Started, Stopped, Bit}
 use Rattle.eeprom.specs.Pages.{geometryOf}
 use Rattle.eeprom.specs.Stages.{Core, due, Body, busyAfter, bodyTick}
 use Rattle.eeprom.specs.States.{mostBusy, wordAt, wordBytes, bodyFrom, stateRight}
-use Rattle.eeprom.specs.Alone.{Watching, chip, chipNumber, chipAlone}
+use Rattle.eeprom.specs.Alone.{Watching, restOf, chip, chipNumber, chipAlone}
 use Rattle.eeprom.specs.declared.Model.{Model}
 use Rattle.eeprom.specs.declared.Model.the-variants.{Large}
 use Rattle.eeprom.proofs.Pages.{fits}
@@ -73,10 +72,10 @@ module _ (strap asked : ℕ) (memory state samples drives : List ℕ) (ok : chip
       }
 
   abbrev last : Body
-  last = walk (chip asked) samples (record { eye = opened; body = bodyFrom strap Large memory state 0 }) .body
+  last = walk (chip asked) samples (restOf (bodyFrom strap Large memory state 0)) .body
 
   last-right : Right last
-  last-right = run-right asked samples (record { eye = opened; body = bodyFrom strap Large memory state 0 }) (asked-in strap asked memory state samples drives 0 (sym ok) refl) first-right
+  last-right = run-right asked samples (restOf (bodyFrom strap Large memory state 0)) (asked-in strap asked memory state samples drives 0 (sym ok) refl) first-right
 
   -- the memory and the state that it leaves have their lengths, and the state is right: numbers 3 and 4 are not given for them
   pub leaves-memory : length (chipAlone strap memory state asked samples drives .memory) ≡ geometryOf Large .size

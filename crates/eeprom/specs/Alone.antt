@@ -9,12 +9,10 @@ use Rattle.lines.specs.Events.{eventOf, eyeAfter, opened}
 use Rattle.lines.specs.Records.{Party, walk, drivesOn, over, no, _then_, badSample}
 use Rattle.lines.specs.declared.Eye.{Eye}
 use Rattle.eeprom.specs.Pages.{geometryOf}
-use Rattle.eeprom.specs.Keeping.{Kept}
 use Rattle.eeprom.specs.Stages.{Body, coreOf, bodyTick, sdaOf}
 use Rattle.eeprom.specs.States.{mostBusy, bodyFrom, stateBytes, stateRight}
 use Rattle.eeprom.specs.declared.Model.the-variants.{Large}
 use Rattle.eeprom.specs.declared.Watch.{Watch}
-use Rattle.eeprom.specs.declared.Stage.the-variants.{Deaf}
 use Rattle.eeprom.specs.declared.Answer.{Answer}
 
 pub record Watching : Type 0 where
@@ -25,9 +23,9 @@ pub record Watching : Type 0 where
 abbrev pub watchOf : Watch → List ℕ → Watching
 watchOf w m = record { eye = w .eye; body = record { core = coreOf (w .chip) m; busy = w .busy } }
 
--- before the first tick: lines 1,1 and not addressed
-abbrev pub restOf : Kept → (busy : ℕ) → Watching
-restOf k busy = record { eye = opened; body = record { core = record { stage = Deaf; kept = k }; busy = busy } }
+-- before the first tick: lines 1,1
+abbrev pub restOf : Body → Watching
+restOf b = record { eye = opened; body = b }
 
 -- it compares each tick's lines with the tick before; it never drives SCL
 abbrev pub chip : (asked : ℕ) → Party
@@ -61,7 +59,7 @@ leftBy r memory state drives = record { answer = r; memory = memory; state = sta
 unfoldable pub chipAlone : (strap : ℕ) → (memory state : List ℕ) → (asked : ℕ) → (samples drives : List ℕ) → ChipAlone
 chipAlone strap memory state asked samples drives =
     let n = chipNumber strap memory state asked samples drives in
-    let c : Watching = record { eye = opened; body = bodyFrom strap Large memory state 0 } in
+    let c : Watching = restOf (bodyFrom strap Large memory state 0) in
     let row : List ℕ = drivesOn (chip asked) samples c in
     let last : Watching = walk (chip asked) samples c in
     let ran : ChipAlone =

@@ -27,9 +27,11 @@ abbrev pub keptAt : (name : ℕ) → Model → (pointer : ℕ) → List ℕ → 
 keptAt name model p m =
     record { store = record { name = name; model = model; pointer = p; want = 0; high = 0; latched = false; latch = blankLatch }; memory = m }
 
+abbrev pub bodyAt : (name : ℕ) → Model → (pointer busy : ℕ) → List ℕ → Body
+bodyAt name model p busy m = record { core = record { stage = Deaf; kept = keptAt name model p m }; busy = busy }
+
 abbrev pub bodyFrom : (strap : ℕ) → Model → List ℕ → (states : List ℕ) → (place : ℕ) → Body
-bodyFrom s model m st p =
-    record { core = record { stage = Deaf; kept = keptAt (80 + s) model (wordAt st (4 * p)) m }; busy = wordAt st (4 * p + 2) }
+bodyFrom s model m st p = bodyAt (80 + s) model (wordAt st (4 * p)) (wordAt st (4 * p + 2)) m
 
 abbrev pub stateBytes : Body → List ℕ → List ℕ
 stateBytes b rest = wordBytes (b .core .kept .store .pointer) (wordBytes (b .busy) rest)

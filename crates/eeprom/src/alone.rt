@@ -8,14 +8,12 @@ ghost use Rattle.lines.specs.Levels.{hi, _∥_};
 ghost use Rattle.lines.specs.Records.{walk, drivesOn, over};
 ghost use Rattle.eeprom.specs.Pages.{geometryOf};
 ghost use Rattle.eeprom.specs.Stages.{sdaOf};
-ghost use Rattle.eeprom.specs.States.{mostBusy, wordAt, wordBytes, keptAt};
+ghost use Rattle.eeprom.specs.States.{mostBusy, wordAt, wordBytes, bodyAt};
 ghost use Rattle.eeprom.specs.Alone.{watchOf, restOf, chip, chipNumber, leftBy, chipAlone};
 use crate::Answer;
 use crate::Chip;
 use crate::MOST_BUSY;
 use crate::Model;
-use crate::Stage;
-use crate::Store;
 use crate::Watch;
 use lines::Eye;
 use lines::Lines;
@@ -26,14 +24,10 @@ use lines::put_at;
 impl Watch {
     // Before the first tick: lines 1,1 and not addressed.
     pub fn at_rest(name: u8, model: Model, pointer: u16, busy: u16) -> Watch
-        ensures { λ r. ⌜ ((m : List ℕ) → watchOf r m ≡ restOf (keptAt name model pointer m) busy) ⌝ }
+        ensures { λ r. ⌜ ((m : List ℕ) → watchOf r m ≡ restOf (bodyAt name model pointer busy m)) ⌝ }
     {
-        let store = Store::at_rest(name, model, pointer);
+        let chip = Chip::at_rest(name, model, pointer);
         let eye = Eye::opened();
-        let chip = Chip {
-            stage: Stage::Deaf,
-            store: store,
-        };
         Watch {
             eye: eye,
             chip: chip,

@@ -6,8 +6,11 @@ ghost use Prim.Native.Nat.{ℕ, _-_, _/_};
 ghost use lib.Dec.{eqb};
 ghost use Rattle.eeprom.specs.Keeping.{keptOf, stepped};
 ghost use Rattle.eeprom.specs.Stages.{Core, coreOf, at, named, answered, bitTo, due, hears, sdaOf, busyAfter};
+ghost use Rattle.eeprom.specs.States.{bodyAt};
 use crate::Chip;
+use crate::Model;
 use crate::Stage;
+use crate::Store;
 use lines::Event;
 use lines::bit_at;
 use lines::shifted;
@@ -45,6 +48,17 @@ fn named(name: u8, free: bool, byte: u8) -> Stage
 }
 
 impl Chip {
+    // Before the first tick: not addressed.
+    pub fn at_rest(name: u8, model: Model, pointer: u16) -> Chip
+        ensures { λ r. ⌜ ((m : List ℕ) → coreOf r m ≡ bodyAt name model pointer 0 m .core) ⌝ }
+    {
+        let store = Store::at_rest(name, model, pointer);
+        Chip {
+            stage: Stage::Deaf,
+            store: store,
+        }
+    }
+
     // What it drives on SDA. It never drives SCL.
     pub fn sda(self) -> bool
         ensures { λ r. ⌜ r ≡ sdaOf (self .stage) ⌝ }
