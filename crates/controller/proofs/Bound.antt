@@ -261,7 +261,8 @@ ends (x ∷ xs) c h = go (isOver (c .phase)) refl (ends xs (controlTick orders (
     less : (a b n : ℕ) → a < b → b ≤ suc n → a ≤ n
     less a b n f h = omega arith
 
-    go : (b : Bool) → isOver (c .phase) ≡ b → (leftOf (controlTick orders (linesOf x) c) ≤ length xs → isOver (walk (party orders) xs (controlTick orders (linesOf x) c) .phase) ≡ true)
+    go : (b : Bool) → isOver (c .phase) ≡ b
+        → (leftOf (controlTick orders (linesOf x) c) ≤ length xs → isOver (walk (party orders) xs (controlTick orders (linesOf x) c) .phase) ≡ true)
         → isOver (walk (party orders) xs (controlTick orders (linesOf x) c) .phase) ≡ true
     go true e more = ap (λ (d : Control State). isOver (d .phase)) (walk-over orders (x ∷ xs) c e) ∙ e
     go false e more = let f : leftOf (controlTick orders (linesOf x) c) < leftOf c = falls (linesOf x) c e in more (less _ _ _ f h)
@@ -295,7 +296,8 @@ message-fits m r e = go (isWrite (m .kind)) refl e
     go true w e = omega arith
     go false w e = let n = some-asked (m .kind) (m .asked) r w in omega arith
 
-stood : (s : List ℕ) (p : ℕ) (m : Message) (q : ℕ) → messageAt s p ≡ whole m q → dataMost (orderOf m) ≤ byteMost * (dataOf (m .kind) (m .asked) + askedOf (m .kind) (m .asked))
+stood : (s : List ℕ) (p : ℕ) (m : Message) (q : ℕ) → messageAt s p ≡ whole m q
+    → dataMost (orderOf m) ≤ byteMost * (dataOf (m .kind) (m .asked) + askedOf (m .kind) (m .asked))
 stood s p m q i =
     let r = message-inv s p m q i in
     let n = r .next in

@@ -1,3 +1,4 @@
+-- Laws by kind. The crates above cite Moves (stays), Matches, Simulation and Bound.
 pub mod Table
 pub mod Ladder
 pub mod Moves

@@ -97,8 +97,10 @@ module _ (list : List ℕ) where
 
   module _ (t : ℕ) (ds samples : List ℕ) (c : Controller) (a : List ℕ) (r : Alone) (so-far : onward t ds (drop t samples) (controlOf c a) ≡ r) where
     -- one tick, in the code's words
-    pub turn : (c′ : Controller) (ds′ a′ : List ℕ) (d l : Lines) (b : ℕ) (o : Bool) → o ≡ isOver (c .phase) → o ≡ false → d ≡ drives (c .phase) (c .was) → b ≡ byteOf d
-        → ds′ ≡ set ds t b → l ≡ linesOf (getD samples t 0) → controlOf c′ a′ ≡ controlTick (places list) l (controlOf c a) → t < length samples → length samples ≤ length ds
+    pub turn : (c′ : Controller) (ds′ a′ : List ℕ) (d l : Lines) (b : ℕ) (o : Bool)
+        → o ≡ isOver (c .phase) → o ≡ false → d ≡ drives (c .phase) (c .was) → b ≡ byteOf d
+        → ds′ ≡ set ds t b → l ≡ linesOf (getD samples t 0) → controlOf c′ a′ ≡ controlTick (places list) l (controlOf c a)
+        → t < length samples → length samples ≤ length ds
         → onward (t + 1) ds′ (drop (t + 1) samples) (controlOf c′ a′) ≡ r
     turn c′ ds′ a′ d l b o oe of de be ds-is le ce h lent =
         let n : isOver (c .phase) ≡ false = sym oe ∙ of in

@@ -85,7 +85,12 @@ module _ (list : List ℕ) (short : length list ≤ mostBytes) where
 
   module _ (at next : ℕ) (m : Message) (e : messageAt list at ≡ whole m next) where
     at-next : (at + sizeAt list at) % wrap ≡ next
-    at-next = let s = message-size list at m next e in let i = message-inv list at m next e in let r = i .room in let b = most-bytes in rw s (wraps next (omega arith))
+    at-next =
+        let s = message-size list at m next e in
+        let i = message-inv list at m next e in
+        let r = i .room in
+        let b = most-bytes in
+        rw s (wraps next (omega arith))
 
     slot-next : (slot : ℕ) → slot ≤ 257 * at → (slot + roomAt list at) % wrap ≡ slot + slotsOf m
     slot-next slot h =
@@ -116,7 +121,8 @@ module _ (list : List ℕ) (short : length list ≤ mostBytes) where
   -- the message is over
   goes : (c : Cursor) (x : Context) → Within list c x → x .top ≡ c .top → Alike list (goesOn list c) (x .log) (goOn (x .todo) x)
   unfolding goesOn slotted slotsOfAll
-  goes c x h t = subst (λ (s : List Slotted). Alike list (goesOn list c) (x .log) (goOn s x)) (sym (h .todo-is)) (cases (h .others) (h .stands) (h .after-is) (h .left-is))
+  goes c x h t = subst (λ (s : List Slotted). Alike list (goesOn list c) (x .log) (goOn s x)) (sym (h .todo-is))
+      (cases (h .others) (h .stands) (h .after-is) (h .left-is))
     where
       n : ℕ
       n = c .slot + slotsOf (x .now .message)
@@ -148,7 +154,8 @@ module _ (list : List ℕ) (short : length list ≤ mostBytes) where
   refuses : (c : Cursor) (x : Context) → Within list c x → x .top ≡ c .top → Alike list (refusedBy list c) (x .log) (refused x)
   unfolding refusedBy
   refuses c x h t = let i = message-inv list (c .at) (x .now .message) (h .next) (h .message) in
-      subst (λ (k : ℕ). Alike list (cond (isCritical k) (acts Closes c) (goesOn list c)) (x .log) (refused x)) (sym (i .kind)) (cases (isCritical (x .now .message .kind)))
+      subst (λ (k : ℕ). Alike list (cond (isCritical k) (acts Closes c) (goesOn list c)) (x .log) (refused x)) (sym (i .kind))
+      (cases (isCritical (x .now .message .kind)))
     where
       cases : (b : Bool) → Alike list (cond b (acts Closes c) (goesOn list c)) (x .log) (cond b (does closing x) (goOn (x .todo) x))
       cases true = record { doing = (refl, h); top = t; log = refl }
@@ -196,7 +203,8 @@ module _ (list : List ℕ) (short : length list ≤ mostBytes) where
       n = x .now .message .asked
 
       cases : (b : Bool) → isWrite k ≡ b
-          → Alike list (cond b (putsOn list n 0 c) (carriesOn (Gets 7 0 (quotaOf k n)) 0 0 c)) (x .log) (carries (cond b (put (x .now .message .sent)) (get (quotaOf k n))) x)
+          → Alike list (cond b (putsOn list n 0 c) (carriesOn (Gets 7 0 (quotaOf k n)) 0 0 c)) (x .log)
+          (carries (cond b (put (x .now .message .sent)) (get (quotaOf k n))) x)
       cases true w =
           let i = message-inv list (c .at) (x .now .message) (h .next) (h .message) in
           let d : dataOf k n ≡ n = sym (data-written k n true (sym w) refl) in
@@ -230,7 +238,8 @@ module _ (list : List ℕ) (short : length list ≤ mostBytes) where
       record { stands = r .stands; slot-is = r .slot-is ∙ ap (λ (y : ℕ). y + slotsOfAll ms) g ∙ add-assoc (c .slot) (slotsOf m) (slotsOfAll ms); small = r .small }
 
   -- the next transaction, or the list's end
-  opened : {at : ℕ} {later : List Transaction} → Stands list at [] later → (top : ℕ) (l : Log) → top ≤ 257 * at → Alike list (opensAt list at top) l (opens (batches top later) l)
+  opened : {at : ℕ} {later : List Transaction} → Stands list at [] later → (top : ℕ) (l : Log) → top ≤ 257 * at
+      → Alike list (opensAt list at top) l (opens (batches top later) l)
   unfolding opensAt batches slotsOfAll
   opened {at} (ended h) top l s = rw (le-ltb at (length list) h) (record { doing = refl; top = refl; log = refl })
   opened {at} (begins {q = q} {m = m} {ms = ms} {ts = ts} h c k i st) top l s =

@@ -213,7 +213,8 @@ fn refused(number: u8) -> Told
 // Tick by tick along the record, to the list's end, a fault or the record's end.
 fn run(list: &[u8], samples: &[u8], drives: &mut [u8], results: &mut [u8]) -> Told
     requires { ⌜ length (now samples) ≤ length (now drives) ⌝ }
-    ensures { λ r. ⌜ record { told = r; drives = now (drives .exit); results = now (results .exit) } ≡ ranOn (now (list .entry)) (now (drives .entry)) (now (samples .entry)) (controlOf (firstOf (now (list .entry))) (now (results .entry))) ⌝ }
+    ensures { λ r. ⌜ record { told = r; drives = now (drives .exit); results = now (results .exit) }
+        ≡ ranOn (now (list .entry)) (now (drives .entry)) (now (samples .entry)) (controlOf (firstOf (now (list .entry))) (now (results .entry))) ⌝ }
 {
     let mut c = Controller::first(list);
     let mut t = 0;
@@ -242,7 +243,8 @@ fn run(list: &[u8], samples: &[u8], drives: &mut [u8], results: &mut [u8]) -> To
 
 // The controller alone on a record of samples, a byte a tick. A refused call changes no lent byte.
 pub fn alone(list: &[u8], samples: &[u8], drives: &mut [u8], results: &mut [u8]) -> Told
-    ensures { λ r. ⌜ record { told = r; drives = now (drives .exit); results = now (results .exit) } ≡ alone (now (list .entry)) (now (samples .entry)) (now (drives .entry)) (now (results .entry)) ⌝ }
+    ensures { λ r. ⌜ record { told = r; drives = now (drives .exit); results = now (results .exit) }
+        ≡ alone (now (list .entry)) (now (samples .entry)) (now (drives .entry)) (now (results .entry)) ⌝ }
 {
     match orders::check(list) {
         Checked::TooLong => refused(1),

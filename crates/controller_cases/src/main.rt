@@ -1,4 +1,5 @@
-// The controller alone on records: one that is right, with each sample in turn replaced by each level; cut after each tick; with SCL held longer; and what is refused.
+// The controller alone on records: one that is right, with each sample in turn replaced by each level; cut after each tick; with SCL held longer; and
+// what is refused. The answers in `stdout` are those of a model of the paper that was written apart from this code.
 // A run is told as its end (L the list's, F a fault, R the record's, N refused), its ticks, and an outcome or another byte that the case is about.
 use controller::End;
 use controller::Told;
@@ -193,21 +194,8 @@ fn asked(list: &[u8], samples: &[u8], d: usize, r: usize) {
     dump(&drives);
 }
 
-fn main() {
-    let list = b"\x02\x02\x00\x50\x00\x01\xa5\x50\x01\x02";
-    let record =
-        b"333331023320011023320110011001100110011000011223320110233200110011023320110233201122231023320110233201100110011001102332011200112011222332233223322332011201120011001122332233201120112011201122332223320013";
-    let other =
-        b"\x02\x00\x00\x51\x00\x00\x50\x01\x03\x02\x01\x00\x51\x02\x01\x11\x50\x00\x02\x80\x7f";
-    let refused =
-        b"333102332011023320110011001102332011023320133333102332011023320110011001102332011023322310233201102332011001100110011001100112233201100110011001100110011001100112011023322332233223322332233223322332013";
-    io::write_all(1, b"right\n");
-    whole(list, record);
-    whole(other, refused);
-    io::write_all(1, b"one sample replaced\n");
-    replace_each(list, record);
-    io::write_all(1, b"the record's end\n");
-    cut_each(list, record);
+// At the first START, a sent 1 and 0, a received bit, a repeated START, a read byte's bit, its answer, and STOP.
+fn hold_all(list: &[u8], record: &[u8]) {
     io::write_all(1, b"held\n");
     hold_each(list, record, 4);
     hold_each(list, record, 8);
@@ -217,21 +205,47 @@ fn main() {
     hold_each(list, record, 130);
     hold_each(list, record, 196);
     hold_each(list, record, 201);
-    io::write_all(1, b"refused\n");
+}
+
+// The list is looked at before the samples, and the samples before the drive buffer.
+fn lists_refused() {
     let none = [0u8; 0];
     let long = [0u8; 4097];
-    let one = b"\x01\x00\x00\x50\x00\x00";
     asked(&none, &none, 0, 0);
     asked(&none, b"\x03\x03", 2, 0);
     asked(&long, b"\x04", 0, 0);
     asked(&long[..4096], b"\x04", 0, 0);
     asked(b"\x01\x00\x00", b"\x04", 0, 0);
     asked(&none, b"\x03\x04", 0, 0);
-    asked(one, b"\x04", 0, 0);
     asked(&none, b"\x03", 0, 0);
-    asked(one, b"\x03", 0, 0);
-    asked(one, b"\x03", 1, 2);
-    asked(one, b"\x03", 1, 3);
-    asked(one, b"\x02", 1, 3);
-    asked(one, &none, 0, 3);
+}
+
+// A message of no byte: the drive buffer is looked at before the result area.
+fn room_refused(list: &[u8]) {
+    asked(list, b"\x04", 0, 0);
+    asked(list, b"\x03", 0, 0);
+    asked(list, b"\x03", 1, 2);
+    asked(list, b"\x03", 1, 3);
+    asked(list, b"\x02", 1, 3);
+    asked(list, b"", 0, 3);
+}
+
+fn main() {
+    let list = b"\x02\x02\x00\x50\x00\x01\xa5\x50\x01\x02";
+    let record =
+        b"333331023320011023320110011001100110011000011223320110233200110011023320110233201122231023320110233201100110011001102332011200112011222332233223322332011201120011001122332233201120112011201122332223320013";
+    io::write_all(1, b"right\n");
+    whole(list, record);
+    whole(
+        b"\x02\x00\x00\x51\x00\x00\x50\x01\x03\x02\x01\x00\x51\x02\x01\x11\x50\x00\x02\x80\x7f",
+        b"333102332011023320110011001102332011023320133333102332011023320110011001102332011023322310233201102332011001100110011001100112233201100110011001100110011001100112011023322332233223322332233223322332013",
+    );
+    io::write_all(1, b"one sample replaced\n");
+    replace_each(list, record);
+    io::write_all(1, b"the record's end\n");
+    cut_each(list, record);
+    hold_all(list, record);
+    io::write_all(1, b"refused\n");
+    lists_refused();
+    room_refused(b"\x01\x00\x00\x50\x00\x00");
 }
