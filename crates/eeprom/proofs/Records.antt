@@ -1,4 +1,5 @@
--- A loop over a record of samples against the fold that the rules have: what is left to do from a tick on, for any party alone. Assumes nothing.
+-- A loop over a record of samples against the fold that the rules have: what is left to do from a tick on, for any party alone; and what
+-- number 0 says of the refusals. Assumes nothing.
 use Prim.Native.Nat.{ℕ, zero, suc, _+_, _<_, _≤_}
 use mathlib.Core.Path.{_≡_, refl, ap, sym, _∙_}
 use mathlib.Core.Bool.{Bool, true, false}
@@ -64,21 +65,17 @@ module _ (P : Party) where
     pub drives : List ℕ
     pub ticks : ℕ
 
+  -- with the samples ys still to come in tick i
+  abbrev on : ℕ → List ℕ → P .State → List ℕ → Left
+  on i ys s lent = record { last = walk P ys s; drives = overFrom i (drivesOn P ys s) lent; ticks = i + length (drivesOn P ys s) }
+
   -- what it leaves, when it stands before sample i
   unfoldable pub leaves : ℕ → List ℕ → P .State → List ℕ → Left
-  leaves i xs s lent =
-      record {
-        last = walk P (drop i xs) s;
-        drives = overFrom i (drivesOn P (drop i xs) s) lent;
-        ticks = i + length (drivesOn P (drop i xs) s);
-      }
+  leaves i xs s lent = on i (drop i xs) s lent
 
   pub from-first : (xs : List ℕ) (s : P .State) (lent : List ℕ) → leaves 0 xs s lent ≡ record { last = walk P xs s; drives = over (drivesOn P xs s) lent; ticks = length (drivesOn P xs s) }
   unfolding leaves
   from-first xs s lent = rw (from-front (drivesOn P xs s) lent, zero-add (length (drivesOn P xs s)))
-
-  abbrev on : ℕ → List ℕ → P .State → List ℕ → Left
-  on i ys s lent = record { last = walk P ys s; drives = overFrom i (drivesOn P ys s) lent; ticks = i + length (drivesOn P ys s) }
 
   one-sample : (i x : ℕ) (ys : List ℕ) (s : P .State) (d : List ℕ) → P .ended s ≡ false → on (suc i) ys (P .tick (linesOf x) s) (set d i (byteOf (P .drive s))) ≡ on i (x ∷ ys) s d
   unfolding walk drivesOn
