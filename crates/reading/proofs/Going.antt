@@ -82,9 +82,9 @@ unfolding worldOf note
 closed-so holds x m m′ l l′ asked top e ys s p cs f le =
     record {
       is =
-        ap₂ (λ (c : Clock) (xs : List Cell). world c xs l′) (p .is)
-        (cs ∙ ap (λ (t : ℕ). map (stores asked t) (cellsOf (x .count) (x .seats) m)) (tick-is holds e (symbol (timeOf (x .time) holds)) (p .is)))
-        ∙ ap (world (symbol (timeOf (x .time) holds)) (map (stores asked (symbol (timeOf (x .time) holds) .now)) (cellsOf (x .count) (x .seats) m))) le;
+          ap₂ (λ (c : Clock) (xs : List Cell). world c xs l′) (p .is)
+          (cs ∙ ap (λ (t : ℕ). map (stores asked t) (cellsOf (x .count) (x .seats) m)) (tick-is holds e (symbol (timeOf (x .time) holds)) (p .is)))
+          ∙ ap (world (symbol (timeOf (x .time) holds)) (map (stores asked (symbol (timeOf (x .time) holds) .now)) (cellsOf (x .count) (x .seats) m))) le;
       sound = record { few = s .few; fits = f };
       soon = p .soon;
     }

@@ -19,8 +19,8 @@ module _ (holds : List ℕ) (t : Time) where
   symbol-held b h =
       record {
         is =
-          rw (drop-cons holds (t .next) 0 h, add-one (t .next))
-          (ap (λ (n : ℕ). record { now = n; holds = drop (suc (t .next)) holds }) (add-assoc (t .now) 4 (getD holds (t .next) 0)));
+            rw (drop-cons holds (t .next) 0 h, add-one (t .next))
+            (ap (λ (n : ℕ). record { now = n; holds = drop (suc (t .next)) holds }) (add-assoc (t .now) 4 (getD holds (t .next) 0)));
         soon = omega arith;
       }
 

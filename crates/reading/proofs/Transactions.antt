@@ -26,11 +26,11 @@ whole-so holds list x m l p f asked low high k b sent r l′ m″ l″ le he ls 
     let w : low + 256 * high + 4 ≡ waitAt list (p .at) + 4 = rw (le, he) in
     record {
       is =
-        d .is
-        ∙ ap (closes asked (p .slot))
+          d .is
+          ∙ ap (closes asked (p .slot))
           (c .is ∙ ap₂ (λ (n : ℕ) (q : Place). messages (slotsAt n list (beyond list q)) (slotOf list q) (worldOf b holds m l)) ke fe
           ∙ ap (messages (slotsAt (others list p) list (beyond list (opened p))) (slotOf list (opened p)))
-            (begun holds (low + 256 * high + 4) x b o m l ∙ ap (λ (n : ℕ). started (pass n (worldOf x holds m l .clock)) (worldOf x holds m l)) w));
+          (begun holds (low + 256 * high + 4) x b o m l ∙ ap (λ (n : ℕ). started (pass n (worldOf x holds m l .clock)) (worldOf x holds m l)) w));
       sound = d .sound;
       soon = omega arith;
     }

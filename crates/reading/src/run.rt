@@ -11,12 +11,13 @@ ghost use Rattle.reading.specs.Clock.{pass};
 ghost use Rattle.reading.specs.Plain.{listens, listening, answered, writesAll, readsAll, carried, messageIf, messages, started, closes, transactions};
 ghost use Rattle.reading.specs.Inside.{far, worldOf, Sound, Comes, Goes, Opens, transaction};
 ghost use Rattle.reading.specs.Along.{Within, Few, bytesAt, slotOf, beyond, slotsAt, after, opened, others, batchAt, nextBatch, batchesAt};
-use board::Seat;
 use crate::chips::Deed;
 use crate::chips::all_move;
 use crate::chips::all_stop;
 use crate::chips::any_listens;
 use crate::chips::value_of;
+use crate::time::Time;
+use board::Seat;
 use orders::Quota;
 use orders::byte_at;
 use orders::data_of;
@@ -26,7 +27,6 @@ use orders::put_at;
 use orders::quota_of;
 use orders::room_at;
 use orders::size_at;
-use crate::time::Time;
 
 // A reading under way: the time, and the first `count` chips, whose memory is lent.
 pub struct Run {
@@ -123,7 +123,18 @@ impl Run {
     }
 
     // The bytes of a write, to the chips at an address that are free at a tick.
-    fn writes(self, address: u8, tick: usize, slot: usize, from: usize, n: u8, list: &[u8], holds: &[u8], memory: &[u8], results: &mut [u8]) -> Run
+    fn writes(
+        self,
+        address: u8,
+        tick: usize,
+        slot: usize,
+        from: usize,
+        n: u8,
+        list: &[u8],
+        holds: &[u8],
+        memory: &[u8],
+        results: &mut [u8],
+    ) -> Run
         requires { ⌜ Sound self (now memory) × (self .time .now + 2331 * n ≤ far) × (from ≤ 4294967296) × (slot + 300 ≤ far) ⌝ }
         ensures { λ r. ⌜ Comes (now (holds .entry)) (now (memory .entry)) (now (results .exit))
             (writesAll (listens address tick) slot 0 (bytesAt n (now (list .entry)) from) (worldOf self (now (holds .entry)) (now (memory .entry)) (now (results .entry))))
@@ -141,7 +152,16 @@ impl Run {
     }
 
     // The bytes of a read. How many follow the first is the quota's to say.
-    fn reads(self, address: u8, tick: usize, slot: usize, quota: Quota, holds: &[u8], memory: &[u8], results: &mut [u8]) -> Run
+    fn reads(
+        self,
+        address: u8,
+        tick: usize,
+        slot: usize,
+        quota: Quota,
+        holds: &[u8],
+        memory: &[u8],
+        results: &mut [u8],
+    ) -> Run
         requires { ⌜ Sound self (now memory) × (self .time .now + 596736 ≤ far) × (slot + 300 ≤ far) × Few quota ⌝ }
         ensures { λ r. ⌜ Comes (now (holds .entry)) (now (memory .entry)) (now (results .exit))
             (carried (listens address tick) slot (get quota) (worldOf self (now (holds .entry)) (now (memory .entry)) (now (results .entry))))
@@ -179,7 +199,15 @@ impl Run {
     }
 
     // The message at a place, after its START.
-    fn message(self, said: bool, place: Place, list: &[u8], holds: &[u8], memory: &[u8], results: &mut [u8]) -> Run
+    fn message(
+        self,
+        said: bool,
+        place: Place,
+        list: &[u8],
+        holds: &[u8],
+        memory: &[u8],
+        results: &mut [u8],
+    ) -> Run
         requires { ⌜ Sound self (now memory) × (self .time .now + 1000000 ≤ far) × Within place ⌝ }
         ensures { λ r. ⌜ Comes (now (holds .entry)) (now (memory .entry)) (now (results .exit))
             (messageIf (slotOf (now (list .entry)) place) said (worldOf self (now (holds .entry)) (now (memory .entry)) (now (results .entry))))
@@ -202,13 +230,39 @@ impl Run {
         let asked = byte_at(list, place.at + 2);
         put_at(results, place.slot, 1);
         if is_write(kind) {
-            return run.writes(address, eighth.now, place.slot, place.at + 3, data_of(kind, asked), list, holds, memory, results);
+            return run.writes(
+                address,
+                eighth.now,
+                place.slot,
+                place.at + 3,
+                data_of(kind, asked),
+                list,
+                holds,
+                memory,
+                results,
+            );
         }
-        run.reads(address, eighth.now, place.slot, quota_of(kind, asked), holds, memory, results)
+        run.reads(
+            address,
+            eighth.now,
+            place.slot,
+            quota_of(kind, asked),
+            holds,
+            memory,
+            results,
+        )
     }
 
     // A message and those after it. A critical one that is not answered is the last: what comes after it may rest on its bytes.
-    fn messages(self, first: Place, others: u8, list: &[u8], holds: &[u8], memory: &[u8], results: &mut [u8]) -> Run
+    fn messages(
+        self,
+        first: Place,
+        others: u8,
+        list: &[u8],
+        holds: &[u8],
+        memory: &[u8],
+        results: &mut [u8],
+    ) -> Run
         requires { ⌜ Sound self (now memory) × (self .time .now + 268435456 ≤ far) × (first .at ≤ 131072) × (first .slot ≤ 137438953472) ⌝ }
         ensures { λ r. ⌜ Comes (now (holds .entry)) (now (memory .entry)) (now (results .exit))
             (messages (slotsAt others (now (list .entry)) (beyond (now (list .entry)) first)) (slotOf (now (list .entry)) first) (worldOf self (now (holds .entry)) (now (memory .entry)) (now (results .entry))))
@@ -250,7 +304,14 @@ impl Run {
     }
 
     // STOP, after which the outcome is 0.
-    fn closes(self, top: usize, asked: u16, holds: &[u8], memory: &mut [u8], results: &mut [u8]) -> Run
+    fn closes(
+        self,
+        top: usize,
+        asked: u16,
+        holds: &[u8],
+        memory: &mut [u8],
+        results: &mut [u8],
+    ) -> Run
         requires { ⌜ Sound self (now memory) × (self .time .now + 259 ≤ far) ⌝ }
         ensures { λ r. ⌜ Comes (now (holds .entry)) (now (memory .exit)) (now (results .exit))
             (closes asked top (worldOf self (now (holds .entry)) (now (memory .entry)) (now (results .entry))))
@@ -269,7 +330,15 @@ impl Run {
     }
 
     // The transaction at a place.
-    fn transaction(self, place: Place, list: &[u8], holds: &[u8], asked: u16, memory: &mut [u8], results: &mut [u8]) -> Run
+    fn transaction(
+        self,
+        place: Place,
+        list: &[u8],
+        holds: &[u8],
+        asked: u16,
+        memory: &mut [u8],
+        results: &mut [u8],
+    ) -> Run
         requires { ⌜ Sound self (now memory) × (self .time .now + 536870912 ≤ far) × (place .at ≤ 65536) × (place .slot ≤ 68719476736) ⌝ }
         ensures { λ r. ⌜ Comes (now (holds .entry)) (now (memory .exit)) (now (results .exit))
             (transaction asked (batchAt (now (list .entry)) place) (worldOf self (now (holds .entry)) (now (memory .entry)) (now (results .entry))))
@@ -278,22 +347,33 @@ impl Run {
         let low = byte_at(list, place.at + 1) as usize;
         let high = byte_at(list, place.at + 2) as usize;
         let begun = self.opens(low + 256 * high + 4, holds);
-        let sent = begun.messages(opened(place), others(list, place), list, holds, memory, results);
+        let sent = begun.messages(
+            opened(place),
+            others(list, place),
+            list,
+            holds,
+            memory,
+            results,
+        );
         sent.closes(place.slot, asked, holds, memory, results)
     }
 
     // All transactions of a list.
-    pub fn transactions(self, list: &[u8], holds: &[u8], asked: u16, memory: &mut [u8], results: &mut [u8]) -> Run
+    pub fn transactions(
+        self,
+        list: &[u8],
+        holds: &[u8],
+        asked: u16,
+        memory: &mut [u8],
+        results: &mut [u8],
+    ) -> Run
         requires { ⌜ Sound self (now memory) × (self .time .now ≤ 0) × (length (now list) ≤ mostBytes) ⌝ }
         ensures { λ r. ⌜ Comes (now (holds .entry)) (now (memory .exit)) (now (results .exit))
             (transactions asked (batchesAt (suc (length (now (list .entry)))) (now (list .entry)) (record { at = 0; slot = 0 })) (worldOf self (now (holds .entry)) (now (memory .entry)) (now (results .entry))))
             far r ⌝ }
     {
         let mut run = self;
-        let mut place = Place {
-            at: 0,
-            slot: 0,
-        };
+        let mut place = Place { at: 0, slot: 0 };
         while place.at < list.len() {
             run = run.transaction(place, list, holds, asked, memory, results);
             place = next_batch(list, place);
