@@ -12,13 +12,13 @@ use Rattle.board.specs.Seats.{offset}
 use Rattle.board.specs.declared.Seat.{Seat}
 use Rattle.reading.specs.Clock.{Clock, symbol, symbols, pass}
 use Rattle.reading.specs.Plain.{Cell, World, does, anyOf, listens, answered, byteGoes, started, stores, closes}
-use Rattle.reading.specs.Inside.{timeOf, Passes, cellsOf, meant, keptDoes, moves, Sound, worldOf, Comes, Goes, Opens}
+use Rattle.reading.specs.Inside.{symbolMost, timeOf, Passes, cellsOf, meant, keptDoes, moves, Sound, worldOf, Comes, Goes, Opens}
 use Rattle.reading.specs.Along.{slotOf}
 use Rattle.reading.specs.declared.time.Time.{Time}
 use Rattle.reading.specs.declared.chips.Deed.{Deed}
 use Rattle.reading.specs.declared.chips.Deed.the-variants.{Start, Take, Send}
 use Rattle.reading.specs.declared.run.Run.{Run}
-use Rattle.reading.specs.declared.run.Place.{Place}
+use Rattle.reading.specs.declared.places.Place.{Place}
 
 abbrev world : Clock → List Cell → List ℕ → World
 world c xs l = record { clock = c; cells = xs; log = record { area = l } }
@@ -75,9 +75,9 @@ answered-so holds s x p a e r ae te said m l =
 
 -- STOP
 
-pub closed-so : (holds : List ℕ) (x : Run) (m m′ l l′ : List ℕ) (asked top : ℕ) (e : Time) (ys : List Seat) → Sound x m → Passes holds (symbol (timeOf (x .time) holds)) (x .time .now + 259) e
+pub closed-so : (holds : List ℕ) (x : Run) (m m′ l l′ : List ℕ) (asked top : ℕ) (e : Time) (ys : List Seat) → Sound x m → Passes holds (symbol (timeOf (x .time) holds)) (x .time .now + symbolMost) e
     → cellsOf (x .count) ys m′ ≡ map (stores asked (e .now)) (cellsOf (x .count) (x .seats) m) → offset (x .count) ys ≡ length m′ → l′ ≡ set l top 0
-    → Comes holds m′ l′ (closes asked top (worldOf x holds m l)) (x .time .now + 259) (record { time = e; count = x .count; seats = ys })
+    → Comes holds m′ l′ (closes asked top (worldOf x holds m l)) (x .time .now + symbolMost) (record { time = e; count = x .count; seats = ys })
 unfolding worldOf note
 closed-so holds x m m′ l l′ asked top e ys s p cs f le =
     record {

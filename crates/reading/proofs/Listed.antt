@@ -16,7 +16,7 @@ use Rattle.orders.specs.Results.{Slotted, Batch, slotsOf, slotsOfAll, slotted, 
 use Rattle.orders.proofs.KindLaws.{some-message}
 use Rattle.orders.proofs.WholeMessage.{IsMessage, message-inv, message-size, message-room, message-below}
 use Rattle.reading.specs.Along.{bytesAt, messageOf, slotOf, beyond, slotsAt, after, opened, others, batchAt, nextBatch, batchesAt}
-use Rattle.reading.specs.declared.run.Place.{Place}
+use Rattle.reading.specs.declared.places.Place.{Place}
 
 abbrev place : ℕ → ℕ → Place
 place at slot = record { at = at; slot = slot }

@@ -8,13 +8,13 @@ use mathlib.Core.List.{List}
 use lib.ListN.{length, getD, drop, drop-of-length-le}
 use lib.Seq.{drop-cons}
 use Rattle.reading.specs.Clock.{Clock, symbol, symbols, pass}
-use Rattle.reading.specs.Inside.{timeOf, Passes}
+use Rattle.reading.specs.Inside.{symbolMost, timeOf, Passes}
 use Rattle.reading.specs.declared.time.Time.{Time}
 
 module _ (holds : List ℕ) (t : Time) where
   -- a symbol with its hold byte
   pub symbol-held : getD holds (t .next) 0 < 256 → t .next < length holds
-      → Passes holds (symbol (timeOf t holds)) (t .now + 259) (record { now = t .now + 4 + getD holds (t .next) 0; next = t .next + 1 })
+      → Passes holds (symbol (timeOf t holds)) (t .now + symbolMost) (record { now = t .now + 4 + getD holds (t .next) 0; next = t .next + 1 })
   unfolding timeOf symbol
   symbol-held b h =
       record {
@@ -25,7 +25,7 @@ module _ (holds : List ℕ) (t : Time) where
       }
 
   -- past the list's end none is held
-  pub symbol-free : length holds ≤ t .next → Passes holds (symbol (timeOf t holds)) (t .now + 259) (record { now = t .now + 4; next = t .next })
+  pub symbol-free : length holds ≤ t .next → Passes holds (symbol (timeOf t holds)) (t .now + symbolMost) (record { now = t .now + 4; next = t .next })
   unfolding timeOf symbol
   symbol-free h = record { is = rw (drop-of-length-le holds h); soon = omega arith }
 

@@ -7,7 +7,7 @@ use mathlib.Core.List.{List}
 use Rattle.orders.specs.Kinds.{isCritical}
 use Rattle.orders.specs.Places.{sizeAt, roomAt}
 use Rattle.reading.specs.Along.{beyond, after, opened, others, nextBatch}
-use Rattle.reading.specs.declared.run.Place.{Place}
+use Rattle.reading.specs.declared.places.Place.{Place}
 
 pub not-critical : (said r : Bool) (kind : ℕ) → said ≡ false → r ≡ isCritical kind → not r ≡ said || not (isCritical kind)
 not-critical said r kind e f = rw (e, f)

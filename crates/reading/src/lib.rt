@@ -1,5 +1,6 @@
 // The plain reading of a list: no wires, and no ticks but their count.
 mod chips;
+mod places;
 mod run;
 mod time;
 
