@@ -1,12 +1,11 @@
 -- What one step makes of the rules' world: symbols that go by while the chips do a deed, a transaction's START, its STOP; and who answers.
 -- Assumes nothing.
-use Prim.Native.Nat.{ℕ, _+_, _≤_}
-use native.Mathlib.Omega.{arith}
-use mathlib.Core.Path.{_≡_, refl, ap, ap₂, sym, _∙_}
+use Prim.Native.Nat.{ℕ, _+_}
+use mathlib.Core.Path.{_≡_, ap, ap₂, _∙_}
 use mathlib.Core.Bool.{Bool}
 use mathlib.Core.List.{List, map}
 use lib.ListN.{length, getD, set}
-use Rattle.orders.specs.Marks.{Mark, closed, noteArea, note, Log}
+use Rattle.orders.specs.Marks.{Mark, noteArea, note}
 use Rattle.eeprom.specs.Keeping.{starts}
 use Rattle.board.specs.Seats.{offset}
 use Rattle.board.specs.declared.Seat.{Seat}
@@ -16,7 +15,7 @@ use Rattle.reading.specs.Inside.{symbolMost, timeOf, Passes, cellsOf, me
 use Rattle.reading.specs.Along.{slotOf}
 use Rattle.reading.specs.declared.time.Time.{Time}
 use Rattle.reading.specs.declared.chips.Deed.{Deed}
-use Rattle.reading.specs.declared.chips.Deed.the-variants.{Start, Take, Send}
+use Rattle.reading.specs.declared.chips.Deed.the-variants.{Start}
 use Rattle.reading.specs.declared.run.Run.{Run}
 use Rattle.reading.specs.declared.places.Place.{Place}
 

@@ -1,17 +1,17 @@
 -- A message after its START, and the messages of a transaction, as the code goes along the list. Assumes nothing.
-use Prim.Native.Nat.{ℕ, zero, suc, _+_, _-_, _*_, _<_, _≤_}
+use Prim.Native.Nat.{ℕ, suc, _+_, _-_, _*_, _<_}
 use native.Mathlib.Omega.{arith}
-use mathlib.Core.Path.{_≡_, refl, ap, ap₂, sym, _∙_}
-use mathlib.Core.Bool.{Bool, true, false, not, _||_, cond}
-use mathlib.Core.List.{List, [], _∷_}
+use mathlib.Core.Path.{_≡_, ap, ap₂, sym, _∙_}
+use mathlib.Core.Bool.{Bool, true, false, not, _||_}
+use mathlib.Core.List.{List}
 use borrow.Author.Tests.{not-true, not-false}
-use lib.ListN.{length, getD, set}
+use lib.ListN.{getD, set}
 use Rattle.orders.specs.Kinds.{isWrite, isCritical, dataOf, quotaOf, follow}
-use Rattle.orders.specs.Asking.{Order, put, get, orderOf, addressByte}
-use Rattle.orders.specs.Marks.{note, heard}
+use Rattle.orders.specs.Asking.{Order, put, get, orderOf}
+use Rattle.orders.specs.Marks.{note}
 use Rattle.orders.specs.declared.Quota.{Quota}
-use Rattle.reading.specs.Clock.{Clock, symbol, symbols}
-use Rattle.reading.specs.Plain.{World, Cell, listens, answered, addressed, messageIf, message, messages, started, carried, writesAll}
+use Rattle.reading.specs.Clock.{Clock, symbols}
+use Rattle.reading.specs.Plain.{World, listens, answered, addressed, messageIf, message, messages, carried, writesAll}
 use Rattle.reading.specs.Inside.{symbolMost, byteMost, bytesMost, messageMost, timeOf, Passes, cellsOf, worldOf, Sound, Comes, Goes}
 use Rattle.reading.specs.Along.{Few, bytesAt, slotOf, beyond, slotsAt}
 use Rattle.reading.specs.declared.time.Time.{Time}

@@ -1,14 +1,14 @@
 -- A transaction from its wait to its STOP, and the transactions of a list, as the code goes along it. Assumes nothing.
 use Prim.Native.Nat.{ℕ, zero, suc, _+_, _-_, _*_, _<_, _≤_}
 use native.Mathlib.Omega.{arith}
-use mathlib.Core.Path.{_≡_, refl, ap, ap₂, sym, _∙_}
+use mathlib.Core.Path.{_≡_, refl, ap, ap₂, _∙_}
 use mathlib.Core.List.{List}
 use borrow.Author.Tests.{lt-ltb, le-ltb}
 use lib.ListN.{length, getD}
 use Rattle.orders.specs.Form.{waitAt}
 use Rattle.reading.specs.Clock.{pass}
 use Rattle.reading.specs.Plain.{World, messages, started, closes, transactions}
-use Rattle.reading.specs.Inside.{symbolMost, messagesMost, transactionMost, worldOf, Sound, Comes, Opens, transaction}
+use Rattle.reading.specs.Inside.{symbolMost, messagesMost, transactionMost, worldOf, Comes, Opens, transaction}
 use Rattle.reading.specs.Along.{slotOf, beyond, slotsAt, opened, others, batchAt, nextBatch, batchesAt}
 use Rattle.reading.specs.declared.run.Run.{Run}
 use Rattle.reading.specs.declared.places.Place.{Place}

@@ -7,7 +7,7 @@ use lib.ListN.{length, drop}
 use Rattle.orders.specs.Results.{Batch}
 use Rattle.eeprom.specs.Keeping.{Kept, keptOf, geo, takesAt, takes, stepped, steps, emptied, starts}
 use Rattle.eeprom.specs.declared.Store.{Store}
-use Rattle.board.specs.Seats.{Seated, sizeOf, seated, offset}
+use Rattle.board.specs.Seats.{Seated, seated, offset}
 use Rattle.board.specs.Desk.{Outcome}
 use Rattle.board.specs.declared.Answer.{Answer}
 use Rattle.board.specs.declared.Seat.{Seat}

@@ -5,7 +5,6 @@ mod run;
 mod time;
 
 ghost use mathlib.Core.Path.{_≡_};
-ghost use Rattle.board.specs.Desk.{Outcome};
 ghost use Rattle.reading.specs.Inside.{outcomeOf};
 ghost use Rattle.reading.specs.Read.{plainRun};
 use crate::run::Run;
