@@ -1,19 +1,18 @@
 -- The chips as a list: what a loop over the array does to it, whether one of them listens, and the byte of the first that does. Assumes nothing.
 use Prim.Native.Nat.{ℕ, zero, suc, _+_, _-_, _≤_, _<_}
-use native.Mathlib.Nat.{suc-le-suc-iff}
 use native.Mathlib.Numerals.{add-one}
 use native.Mathlib.Omega.{arith}
-use mathlib.Core.Path.{_≡_, refl, ap, ap₂, sym, _∙_}
-use mathlib.Core.Bool.{Bool, true, false, cond, _||_}
-use mathlib.Core.List.{List, [], _∷_, _++_, map}
-use lib.ListN.{length, getD, set, take, drop, length-map, List·getD-map, drop-of-length-le}
+use mathlib.Core.Path.{_≡_, refl, ap, ap₂, _∙_}
+use mathlib.Core.Bool.{Bool, true, false}
+use mathlib.Core.List.{List, [], _∷_, map}
+use lib.ListN.{length, getD, take, drop, length-map, List·getD-map, drop-of-length-le}
 use lib.Seq.{drop-cons}
 use Rattle.eeprom.specs.Keeping.{keptOf, byteNow}
-use Rattle.board.specs.Seats.{Seated, parted, sizeOf, seated, offset}
+use Rattle.board.specs.Seats.{parted, sizeOf, seated, offset}
 use Rattle.board.specs.declared.Seat.{Seat}
-use Rattle.board.proofs.Seated.{seated-length, seated-at, seated-set, offset-next, offset-set, offset-within}
-use Rattle.board.proofs.Done.{done, done-length, done-step, done-end}
-use Rattle.reading.specs.Plain.{Cell, listens, anyOf, valueOf, stores}
+use Rattle.board.proofs.Seated.{seated-length, seated-at, offset-next, offset-within}
+use Rattle.board.proofs.Done.{done}
+use Rattle.reading.specs.Plain.{Cell, listens, anyOf, valueOf}
 use Rattle.reading.specs.Inside.{cellAt, cellOn, cellsOf, moves, seatMoves}
 use Rattle.reading.specs.declared.chips.Deed.{Deed}
 use Rattle.reading.proofs.Deeds.{moves-so, moves-size}

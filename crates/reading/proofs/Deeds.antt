@@ -1,17 +1,17 @@
 -- What a chip does at a START, a byte and a STOP: the code's chip with its part of the memory is the rules' chip. Assumes nothing.
-use Prim.Native.Nat.{ℕ, zero, suc, _+_, _≤_, _<_}
-use mathlib.Core.Path.{_≡_, refl, ap, ap₂, sym, _∙_}
-use mathlib.Core.Bool.{Bool, true, false, cond}
+use Prim.Native.Nat.{ℕ, zero, suc}
+use mathlib.Core.Path.{_≡_, refl, ap, ap₂, _∙_}
+use mathlib.Core.Bool.{Bool, true, false}
 use mathlib.Core.List.{List, []}
 use borrow.Author.Tests.{eq-eqb, ne-eqb}
-use lib.Dec.{eqb, leb}
+use lib.Dec.{leb}
 use Rattle.eeprom.specs.Keeping.{Kept, keptOf, takesAt, takes, steps, starts, stops}
 use Rattle.eeprom.specs.Pages.{geometryOf}
 use Rattle.eeprom.specs.declared.Model.{Model}
 use Rattle.eeprom.specs.declared.Store.{Store}
 use Rattle.board.specs.Seats.{sizeOf}
 use Rattle.board.specs.declared.Seat.{Seat}
-use Rattle.reading.specs.Plain.{Cell, listens, stores}
+use Rattle.reading.specs.Plain.{listens, stores}
 use Rattle.reading.specs.Inside.{cellAt, storeDoes, keptDoes, meant, moves, seatMoves, freeAfter}
 use Rattle.reading.specs.declared.chips.Deed.{Deed}
 use Rattle.reading.specs.declared.chips.Deed.the-variants.{Start, Take, Send}

@@ -3,7 +3,7 @@ use Prim.Native.Nat.{ℕ, zero, suc, _+_, _-_, _*_, _<_, _≤_}
 use native.Mathlib.Nat.{sub-zero}
 use native.Mathlib.Omega.{arith}
 use mathlib.Core.Path.{_≡_, refl, ap, ap₂, sym, _∙_}
-use mathlib.Core.Bool.{Bool, true, false, not, _&&_, cond}
+use mathlib.Core.Bool.{Bool, true, false, not, _&&_}
 use mathlib.Core.List.{List, [], _∷_, _++_, map}
 use borrow.Author.Tests.{lt-ltb, le-ltb, eqb-true, ne-eqb}
 use lib.Count.{ones}
@@ -13,17 +13,15 @@ use Rattle.lines.specs.Levels.{mostHeld}
 use Rattle.lines.specs.Records.{no, _then_, allWithin}
 use Rattle.orders.specs.Form.{transactionsOf}
 use Rattle.orders.specs.Kinds.{mostBytes}
-use Rattle.orders.specs.Results.{areaOf, batches, startArea, checkOf, listNumber}
+use Rattle.orders.specs.Results.{startArea, checkOf}
 use Rattle.orders.specs.Start.{startedOf}
 use Rattle.orders.specs.declared.Break.{Break}
-use Rattle.orders.specs.declared.Checked.{Checked}
 use Rattle.orders.specs.declared.Checked.the-variants.{Accepted, TooLong, Broken}
-use Rattle.orders.proofs.Stands.{Holds, holds}
+use Rattle.orders.proofs.Stands.{holds}
 use Rattle.orders.proofs.Starts.{starts}
-use Rattle.eeprom.specs.Stages.{Body}
 use Rattle.eeprom.specs.States.{mostBusy}
-use Rattle.board.specs.Marks.{memoryAt, bodies, bodiesFrom, memories, stateRow}
-use Rattle.board.specs.Desk.{Outcome, statesRight, boardNumber, busNumber, refusal, ran}
+use Rattle.board.specs.Marks.{memoryAt, bodies, memories, stateRow}
+use Rattle.board.specs.Desk.{statesRight, boardNumber, busNumber}
 use Rattle.board.specs.Seats.{Seated, seated, offset, seatsFrom, seatRow}
 use Rattle.board.specs.Seats as seats
 use Rattle.board.specs.declared.Answer.{Answer}

@@ -1,24 +1,23 @@
 -- What one step makes of the rules' world: symbols that go by while the chips do a deed, a transaction's START, its STOP; and who answers.
 -- Assumes nothing.
-use Prim.Native.Nat.{ℕ, _+_, _≤_}
-use native.Mathlib.Omega.{arith}
-use mathlib.Core.Path.{_≡_, refl, ap, ap₂, sym, _∙_}
+use Prim.Native.Nat.{ℕ, _+_}
+use mathlib.Core.Path.{_≡_, ap, ap₂, _∙_}
 use mathlib.Core.Bool.{Bool}
 use mathlib.Core.List.{List, map}
 use lib.ListN.{length, getD, set}
-use Rattle.orders.specs.Marks.{Mark, closed, noteArea, note, Log}
+use Rattle.orders.specs.Marks.{Mark, noteArea, note}
 use Rattle.eeprom.specs.Keeping.{starts}
 use Rattle.board.specs.Seats.{offset}
 use Rattle.board.specs.declared.Seat.{Seat}
 use Rattle.reading.specs.Clock.{Clock, symbol, symbols, pass}
 use Rattle.reading.specs.Plain.{Cell, World, does, anyOf, listens, answered, byteGoes, started, stores, closes}
-use Rattle.reading.specs.Inside.{timeOf, Passes, cellsOf, meant, keptDoes, moves, Sound, worldOf, Comes, Goes, Opens}
+use Rattle.reading.specs.Inside.{symbolMost, timeOf, Passes, cellsOf, meant, keptDoes, moves, Sound, worldOf, Comes, Goes, Opens}
 use Rattle.reading.specs.Along.{slotOf}
 use Rattle.reading.specs.declared.time.Time.{Time}
 use Rattle.reading.specs.declared.chips.Deed.{Deed}
-use Rattle.reading.specs.declared.chips.Deed.the-variants.{Start, Take, Send}
+use Rattle.reading.specs.declared.chips.Deed.the-variants.{Start}
 use Rattle.reading.specs.declared.run.Run.{Run}
-use Rattle.reading.specs.declared.run.Place.{Place}
+use Rattle.reading.specs.declared.places.Place.{Place}
 
 abbrev world : Clock → List Cell → List ℕ → World
 world c xs l = record { clock = c; cells = xs; log = record { area = l } }
@@ -75,16 +74,16 @@ answered-so holds s x p a e r ae te said m l =
 
 -- STOP
 
-pub closed-so : (holds : List ℕ) (x : Run) (m m′ l l′ : List ℕ) (asked top : ℕ) (e : Time) (ys : List Seat) → Sound x m → Passes holds (symbol (timeOf (x .time) holds)) (x .time .now + 259) e
+pub closed-so : (holds : List ℕ) (x : Run) (m m′ l l′ : List ℕ) (asked top : ℕ) (e : Time) (ys : List Seat) → Sound x m → Passes holds (symbol (timeOf (x .time) holds)) (x .time .now + symbolMost) e
     → cellsOf (x .count) ys m′ ≡ map (stores asked (e .now)) (cellsOf (x .count) (x .seats) m) → offset (x .count) ys ≡ length m′ → l′ ≡ set l top 0
-    → Comes holds m′ l′ (closes asked top (worldOf x holds m l)) (x .time .now + 259) (record { time = e; count = x .count; seats = ys })
+    → Comes holds m′ l′ (closes asked top (worldOf x holds m l)) (x .time .now + symbolMost) (record { time = e; count = x .count; seats = ys })
 unfolding worldOf note
 closed-so holds x m m′ l l′ asked top e ys s p cs f le =
     record {
       is =
-        ap₂ (λ (c : Clock) (xs : List Cell). world c xs l′) (p .is)
-        (cs ∙ ap (λ (t : ℕ). map (stores asked t) (cellsOf (x .count) (x .seats) m)) (tick-is holds e (symbol (timeOf (x .time) holds)) (p .is)))
-        ∙ ap (world (symbol (timeOf (x .time) holds)) (map (stores asked (symbol (timeOf (x .time) holds) .now)) (cellsOf (x .count) (x .seats) m))) le;
+          ap₂ (λ (c : Clock) (xs : List Cell). world c xs l′) (p .is)
+          (cs ∙ ap (λ (t : ℕ). map (stores asked t) (cellsOf (x .count) (x .seats) m)) (tick-is holds e (symbol (timeOf (x .time) holds)) (p .is)))
+          ∙ ap (world (symbol (timeOf (x .time) holds)) (map (stores asked (symbol (timeOf (x .time) holds) .now)) (cellsOf (x .count) (x .seats) m))) le;
       sound = record { few = s .few; fits = f };
       soon = p .soon;
     }

@@ -1,22 +1,19 @@
 -- The list by places is the list as it was read: each message and each transaction with its places in the result area. Assumes nothing.
-use Prim.Native.Nat.{ℕ, zero, suc, _+_, _-_, _*_, _<_, _≤_}
-use native.Mathlib.Nat.{add-assoc, add-zero, add-comm}
-use native.Mathlib.Numerals.{add-one}
+use Prim.Native.Nat.{ℕ, zero, suc, _+_, _-_, _<_, _≤_}
+use native.Mathlib.Nat.{add-assoc, add-zero}
 use native.Mathlib.Omega.{arith}
-use mathlib.Core.Path.{_≡_, refl, ap, ap₂, sym, _∙_}
-use mathlib.Core.Bool.{true}
+use mathlib.Core.Path.{_≡_, refl, ap, ap₂, _∙_}
 use mathlib.Core.List.{List, [], _∷_}
 use borrow.Author.Tests.{lt-ltb, le-ltb}
 use lib.ListN.{length, getD, take, drop}
 use lib.Seq.{drop-cons}
-use Rattle.orders.specs.Kinds.{countRight, dataOf}
-use Rattle.orders.specs.Form.{Message, Transaction, whole, messageAt, waitAt, transactionsOf}
-use Rattle.orders.specs.Places.{Stands, ended, begins, follows, sizeAt, roomAt}
-use Rattle.orders.specs.Results.{Slotted, Batch, slotsOf, slotsOfAll, slotted, batches}
-use Rattle.orders.proofs.KindLaws.{some-message}
-use Rattle.orders.proofs.WholeMessage.{IsMessage, message-inv, message-size, message-room, message-below}
-use Rattle.reading.specs.Along.{bytesAt, messageOf, slotOf, beyond, slotsAt, after, opened, others, batchAt, nextBatch, batchesAt}
-use Rattle.reading.specs.declared.run.Place.{Place}
+use Rattle.orders.specs.Kinds.{dataOf}
+use Rattle.orders.specs.Form.{Message, Transaction, whole, messageAt, waitAt}
+use Rattle.orders.specs.Places.{Stands, ended, begins, follows}
+use Rattle.orders.specs.Results.{Batch, slotsOf, slotsOfAll, slotted, batches}
+use Rattle.orders.proofs.WholeMessage.{message-inv, message-size, message-room}
+use Rattle.reading.specs.Along.{bytesAt, messageOf, slotOf, beyond, slotsAt, after, others, batchesAt}
+use Rattle.reading.specs.declared.places.Place.{Place}
 
 abbrev place : ℕ → ℕ → Place
 place at slot = record { at = at; slot = slot }

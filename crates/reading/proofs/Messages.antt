@@ -1,23 +1,23 @@
 -- A message after its START, and the messages of a transaction, as the code goes along the list. Assumes nothing.
-use Prim.Native.Nat.{ℕ, zero, suc, _+_, _-_, _*_, _<_, _≤_}
+use Prim.Native.Nat.{ℕ, suc, _+_, _-_, _*_, _<_}
 use native.Mathlib.Omega.{arith}
-use mathlib.Core.Path.{_≡_, refl, ap, ap₂, sym, _∙_}
-use mathlib.Core.Bool.{Bool, true, false, not, _||_, cond}
-use mathlib.Core.List.{List, [], _∷_}
+use mathlib.Core.Path.{_≡_, ap, ap₂, sym, _∙_}
+use mathlib.Core.Bool.{Bool, true, false, not, _||_}
+use mathlib.Core.List.{List}
 use borrow.Author.Tests.{not-true, not-false}
-use lib.ListN.{length, getD, set}
+use lib.ListN.{getD, set}
 use Rattle.orders.specs.Kinds.{isWrite, isCritical, dataOf, quotaOf, follow}
-use Rattle.orders.specs.Asking.{Order, put, get, orderOf, addressByte}
-use Rattle.orders.specs.Marks.{note, heard}
+use Rattle.orders.specs.Asking.{Order, put, get, orderOf}
+use Rattle.orders.specs.Marks.{note}
 use Rattle.orders.specs.declared.Quota.{Quota}
-use Rattle.reading.specs.Clock.{Clock, symbol, symbols}
-use Rattle.reading.specs.Plain.{World, Cell, listens, answered, addressed, messageIf, message, messages, started, carried, writesAll}
-use Rattle.reading.specs.Inside.{timeOf, Passes, cellsOf, worldOf, Sound, Comes, Goes}
+use Rattle.reading.specs.Clock.{Clock, symbols}
+use Rattle.reading.specs.Plain.{World, listens, answered, addressed, messageIf, message, messages, carried, writesAll}
+use Rattle.reading.specs.Inside.{symbolMost, byteMost, bytesMost, messageMost, timeOf, Passes, cellsOf, worldOf, Sound, Comes, Goes}
 use Rattle.reading.specs.Along.{Few, bytesAt, slotOf, beyond, slotsAt}
 use Rattle.reading.specs.declared.time.Time.{Time}
 use Rattle.reading.specs.declared.chips.Deed.the-variants.{Start}
 use Rattle.reading.specs.declared.run.Run.{Run}
-use Rattle.reading.specs.declared.run.Place.{Place}
+use Rattle.reading.specs.declared.places.Place.{Place}
 use Rattle.reading.proofs.Going.{tick-is, restarted}
 
 -- a read that asks for n bytes, n a byte, reads at most so many
@@ -28,12 +28,12 @@ few-read kind n q e h = rw e (record { few = λ x. omega arith })
 -- the address byte went by: `at` is the run's after it, `eighth` the time at which the answer was decided
 
 module _ (holds list : List ℕ) (x : Run) (m : List ℕ) (p : Place) (sound : Sound x m) (eighth ninth : Time)
-    (decided : timeOf eighth holds ≡ symbols 8 (timeOf (x .time) holds)) (gone : Passes holds (symbols 9 (timeOf (x .time) holds)) (x .time .now + 259 * 9) ninth)
+    (decided : timeOf eighth holds ≡ symbols 8 (timeOf (x .time) holds)) (gone : Passes holds (symbols 9 (timeOf (x .time) holds)) (x .time .now + symbolMost * 9) ninth)
     (l : List ℕ) (said : Bool) where
   abbrev at : Run
   at = record { time = ninth; count = x .count; seats = x .seats }
 
-  pub nobody : said ≡ false → Comes holds m l (messageIf (slotOf list p) said (worldOf x holds m l)) (x .time .now + 1000000) at
+  pub nobody : said ≡ false → Comes holds m l (messageIf (slotOf list p) said (worldOf x holds m l)) (x .time .now + messageMost) at
   unfolding worldOf note
   nobody e =
       let soon = gone .soon in
@@ -58,8 +58,8 @@ module _ (holds list : List ℕ) (x : Run) (m : List ℕ) (p : Place) (sound : S
         rw (yes, ae, t, oe) (ap (λ (w : World). carried (listens (getD list (p .at) 0) (symbols 8 (timeOf (x .time) holds) .now)) (p .slot) (orderOf (slotOf list p .message)) w) heard-so)
 
     pub wrote : (w : Bool) (d : ℕ) (r : Run) (l″ : List ℕ) → w ≡ isWrite k → w ≡ true → d ≡ dataOf k n → d < 256
-        → Comes holds m l″ (writesAll (listens a (eighth .now)) (p .slot) 0 (bytesAt d list (p .at + 3)) (worldOf at holds m l′)) (ninth .now + 2331 * d) r
-        → Comes holds m l″ (messageIf (slotOf list p) said (worldOf x holds m l)) (x .time .now + 1000000) r
+        → Comes holds m l″ (writesAll (listens a (eighth .now)) (p .slot) 0 (bytesAt d list (p .at + 3)) (worldOf at holds m l′)) (ninth .now + byteMost * d) r
+        → Comes holds m l″ (messageIf (slotOf list p) said (worldOf x holds m l)) (x .time .now + messageMost) r
     wrote w d r l″ we wt de small c =
         let i : isWrite (getD list (p .at + 1) 0) ≡ true = sym (we ∙ ap isWrite ke) ∙ wt in
         let soon = gone .soon in
@@ -68,8 +68,8 @@ module _ (holds list : List ℕ) (x : Run) (m : List ℕ) (p : Place) (sound : S
         record { is = c .is ∙ carried-so (put (bytesAt d list (p .at + 3))) o; sound = c .sound; soon = omega arith }
 
     pub did-read : (w : Bool) (q : Quota) (r : Run) (l″ : List ℕ) → w ≡ isWrite k → w ≡ false → q ≡ quotaOf k n
-        → Comes holds m l″ (carried (listens a (eighth .now)) (p .slot) (get q) (worldOf at holds m l′)) (ninth .now + 596736) r
-        → Comes holds m l″ (messageIf (slotOf list p) said (worldOf x holds m l)) (x .time .now + 1000000) r
+        → Comes holds m l″ (carried (listens a (eighth .now)) (p .slot) (get q) (worldOf at holds m l′)) (ninth .now + bytesMost) r
+        → Comes holds m l″ (messageIf (slotOf list p) said (worldOf x holds m l)) (x .time .now + messageMost) r
     did-read w q r l″ we wf qe c =
         let i : isWrite (getD list (p .at + 1) 0) ≡ false = sym (we ∙ ap isWrite ke) ∙ wf in
         let soon = gone .soon in

@@ -70,13 +70,16 @@ module _ (n i : ℕ) (xs : List Seat) (m p : List ℕ) (y d : Seat) (b z : ℕ) 
   pub one-stopped : (asked t : ℕ) (xs₀ : List Seat) (m₀ : List ℕ) → Stopped asked t n i xs₀ m₀ xs m → n ≤ length xs₀
       → cellAt y p ≡ stores asked t (cellAt (getD xs i d) (take (b + z - b) (drop b m)))
       → (b + z ≡ offset (i + 1) (set xs i y)) × (offset n (set xs i y) ≡ length (take b m ++ (p ++ drop (b + z - b) (drop b m))))
-        × (length (take b m ++ (p ++ drop (b + z - b) (drop b m))) ≡ length m)
-        × Stopped asked t n (i + 1) xs₀ m₀ (set xs i y) (take b m ++ (p ++ drop (b + z - b) (drop b m)))
+      × (length (take b m ++ (p ++ drop (b + z - b) (drop b m))) ≡ length m)
+      × Stopped asked t n (i + 1) xs₀ m₀ (set xs i y) (take b m ++ (p ++ drop (b + z - b) (drop b m)))
   unfolding after part
   one-stopped asked t xs₀ m₀ so-far room₀ stop =
       let l : i < length (cellsOf n xs₀ m₀) = rw (cells-length n xs₀ room₀ m₀) h in
-      let e : b + z - b ≡ sizeOf (getD xs i d) = omega arith in
-      (part-next, still-fits, as-long,
-      put-back
-      ∙ done-step (stores asked t) i (cellsOf n xs₀ m₀) (cellsOf n xs m) (cellAt y p) (cellAt d []) so-far
-        (stop ∙ ap (stores asked t) (ap₂ (λ (k o : ℕ). cellAt (getD xs i d) (take k (drop o m))) e here ∙ sym (cell-at n xs room m i d h))) l)
+      let e : b + z - b ≡ sizeOf (getD xs i d) = omega arith in (
+        part-next,
+        still-fits,
+        as-long,
+        put-back
+            ∙ done-step (stores asked t) i (cellsOf n xs₀ m₀) (cellsOf n xs m) (cellAt y p) (cellAt d []) so-far
+            (stop ∙ ap (stores asked t) (ap₂ (λ (k o : ℕ). cellAt (getD xs i d) (take k (drop o m))) e here ∙ sym (cell-at n xs room m i d h))) l,
+      )

@@ -1,31 +1,31 @@
 -- Ticks counted symbol by symbol, as the code counts them. Assumes nothing.
-use Prim.Native.Nat.{ℕ, suc, _+_, _-_, _*_, _<_, _≤_}
+use Prim.Native.Nat.{ℕ, suc, _+_, _-_, _<_, _≤_}
 use native.Mathlib.Nat.{add-assoc, sub-zero}
 use native.Mathlib.Numerals.{add-one}
 use native.Mathlib.Omega.{arith}
-use mathlib.Core.Path.{_≡_, refl, ap, ap₂, sym, _∙_}
+use mathlib.Core.Path.{_≡_, refl, ap}
 use mathlib.Core.List.{List}
 use lib.ListN.{length, getD, drop, drop-of-length-le}
 use lib.Seq.{drop-cons}
 use Rattle.reading.specs.Clock.{Clock, symbol, symbols, pass}
-use Rattle.reading.specs.Inside.{timeOf, Passes}
+use Rattle.reading.specs.Inside.{symbolMost, timeOf, Passes}
 use Rattle.reading.specs.declared.time.Time.{Time}
 
 module _ (holds : List ℕ) (t : Time) where
   -- a symbol with its hold byte
   pub symbol-held : getD holds (t .next) 0 < 256 → t .next < length holds
-      → Passes holds (symbol (timeOf t holds)) (t .now + 259) (record { now = t .now + 4 + getD holds (t .next) 0; next = t .next + 1 })
+      → Passes holds (symbol (timeOf t holds)) (t .now + symbolMost) (record { now = t .now + 4 + getD holds (t .next) 0; next = t .next + 1 })
   unfolding timeOf symbol
   symbol-held b h =
       record {
         is =
-          rw (drop-cons holds (t .next) 0 h, add-one (t .next))
-          (ap (λ (n : ℕ). record { now = n; holds = drop (suc (t .next)) holds }) (add-assoc (t .now) 4 (getD holds (t .next) 0)));
+            rw (drop-cons holds (t .next) 0 h, add-one (t .next))
+            (ap (λ (n : ℕ). record { now = n; holds = drop (suc (t .next)) holds }) (add-assoc (t .now) 4 (getD holds (t .next) 0)));
         soon = omega arith;
       }
 
   -- past the list's end none is held
-  pub symbol-free : length holds ≤ t .next → Passes holds (symbol (timeOf t holds)) (t .now + 259) (record { now = t .now + 4; next = t .next })
+  pub symbol-free : length holds ≤ t .next → Passes holds (symbol (timeOf t holds)) (t .now + symbolMost) (record { now = t .now + 4; next = t .next })
   unfolding timeOf symbol
   symbol-free h = record { is = rw (drop-of-length-le holds h); soon = omega arith }
 

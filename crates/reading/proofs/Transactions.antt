@@ -1,24 +1,24 @@
 -- A transaction from its wait to its STOP, and the transactions of a list, as the code goes along it. Assumes nothing.
 use Prim.Native.Nat.{ℕ, zero, suc, _+_, _-_, _*_, _<_, _≤_}
 use native.Mathlib.Omega.{arith}
-use mathlib.Core.Path.{_≡_, refl, ap, ap₂, sym, _∙_}
+use mathlib.Core.Path.{_≡_, refl, ap, ap₂, _∙_}
 use mathlib.Core.List.{List}
 use borrow.Author.Tests.{lt-ltb, le-ltb}
 use lib.ListN.{length, getD}
 use Rattle.orders.specs.Form.{waitAt}
 use Rattle.reading.specs.Clock.{pass}
 use Rattle.reading.specs.Plain.{World, messages, started, closes, transactions}
-use Rattle.reading.specs.Inside.{worldOf, Sound, Comes, Opens, transaction}
+use Rattle.reading.specs.Inside.{symbolMost, messagesMost, transactionMost, worldOf, Comes, Opens, transaction}
 use Rattle.reading.specs.Along.{slotOf, beyond, slotsAt, opened, others, batchAt, nextBatch, batchesAt}
 use Rattle.reading.specs.declared.run.Run.{Run}
-use Rattle.reading.specs.declared.run.Place.{Place}
+use Rattle.reading.specs.declared.places.Place.{Place}
 use Rattle.reading.proofs.Going.{begun}
 
 pub whole-so : (holds list : List ℕ) (x : Run) (m l : List ℕ) (p f : Place) (asked low high k : ℕ) (b sent r : Run) (l′ m″ l″ : List ℕ) → low ≡ getD list (p .at + 1) 0 → high ≡ getD list (p .at + 2) 0
     → low < 256 → high < 256 → Opens holds (low + 256 * high + 4) x b → f ≡ opened p → k ≡ others list p
-    → Comes holds m l′ (messages (slotsAt k list (beyond list f)) (slotOf list f) (worldOf b holds m l)) (b .time .now + 268435456) sent
-    → Comes holds m″ l″ (closes asked (p .slot) (worldOf sent holds m l′)) (sent .time .now + 259) r
-    → Comes holds m″ l″ (transaction asked (batchAt list p) (worldOf x holds m l)) (x .time .now + 536870912) r
+    → Comes holds m l′ (messages (slotsAt k list (beyond list f)) (slotOf list f) (worldOf b holds m l)) (b .time .now + messagesMost) sent
+    → Comes holds m″ l″ (closes asked (p .slot) (worldOf sent holds m l′)) (sent .time .now + symbolMost) r
+    → Comes holds m″ l″ (transaction asked (batchAt list p) (worldOf x holds m l)) (x .time .now + transactionMost) r
 whole-so holds list x m l p f asked low high k b sent r l′ m″ l″ le he ls hs o fe ke c d =
     let t = o .time .soon in
     let u = c .soon in
@@ -26,11 +26,11 @@ whole-so holds list x m l p f asked low high k b sent r l′ m″ l″ le he ls 
     let w : low + 256 * high + 4 ≡ waitAt list (p .at) + 4 = rw (le, he) in
     record {
       is =
-        d .is
-        ∙ ap (closes asked (p .slot))
+          d .is
+          ∙ ap (closes asked (p .slot))
           (c .is ∙ ap₂ (λ (n : ℕ) (q : Place). messages (slotsAt n list (beyond list q)) (slotOf list q) (worldOf b holds m l)) ke fe
           ∙ ap (messages (slotsAt (others list p) list (beyond list (opened p))) (slotOf list (opened p)))
-            (begun holds (low + 256 * high + 4) x b o m l ∙ ap (λ (n : ℕ). started (pass n (worldOf x holds m l .clock)) (worldOf x holds m l)) w));
+          (begun holds (low + 256 * high + 4) x b o m l ∙ ap (λ (n : ℕ). started (pass n (worldOf x holds m l .clock)) (worldOf x holds m l)) w));
       sound = d .sound;
       soon = omega arith;
     }

@@ -1,13 +1,13 @@
 -- Going along the list by places. Assumes nothing.
-use Prim.Native.Nat.{ℕ, zero, suc, _+_, _-_, _<_, _≤_}
+use Prim.Native.Nat.{ℕ, suc, _+_, _-_, _<_, _≤_}
 use native.Mathlib.Omega.{arith}
-use mathlib.Core.Path.{_≡_, refl, ap, ap₂, sym, _∙_}
+use mathlib.Core.Path.{_≡_, ap, ap₂, _∙_}
 use mathlib.Core.Bool.{Bool, false, not, _||_}
 use mathlib.Core.List.{List}
 use Rattle.orders.specs.Kinds.{isCritical}
 use Rattle.orders.specs.Places.{sizeAt, roomAt}
 use Rattle.reading.specs.Along.{beyond, after, opened, others, nextBatch}
-use Rattle.reading.specs.declared.run.Place.{Place}
+use Rattle.reading.specs.declared.places.Place.{Place}
 
 pub not-critical : (said r : Bool) (kind : ℕ) → said ≡ false → r ≡ isCritical kind → not r ≡ said || not (isCritical kind)
 not-critical said r kind e f = rw (e, f)

@@ -9,7 +9,7 @@ use Rattle.orders.specs.Form.{Message, waitAt}
 use Rattle.orders.specs.Places.{sizeAt, roomAt}
 use Rattle.orders.specs.Results.{Slotted, Batch}
 use Rattle.orders.specs.declared.Quota.{Quota}
-use Rattle.reading.specs.declared.run.Place.{Place}
+use Rattle.reading.specs.declared.places.Place.{Place}
 
 -- so early that no sum of places passes a word
 pub record Within (p : Place) : Type 0 where

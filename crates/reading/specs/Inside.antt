@@ -7,7 +7,7 @@ use lib.ListN.{length, drop}
 use Rattle.orders.specs.Results.{Batch}
 use Rattle.eeprom.specs.Keeping.{Kept, keptOf, geo, takesAt, takes, stepped, steps, emptied, starts}
 use Rattle.eeprom.specs.declared.Store.{Store}
-use Rattle.board.specs.Seats.{Seated, sizeOf, seated, offset}
+use Rattle.board.specs.Seats.{Seated, seated, offset}
 use Rattle.board.specs.Desk.{Outcome}
 use Rattle.board.specs.declared.Answer.{Answer}
 use Rattle.board.specs.declared.Seat.{Seat}
@@ -21,6 +21,25 @@ use Rattle.reading.specs.declared.run.Run.{Run}
 -- no run gets there: so no sum of ticks or places passes a word
 abbrev pub far : ℕ
 far = 1152921504606846976
+
+-- the most ticks that each may take: a clocked symbol, a byte, 256 bytes, a message, 256 messages, a transaction with its wait
+abbrev pub symbolMost : ℕ
+symbolMost = 259
+
+abbrev pub byteMost : ℕ
+byteMost = 2331
+
+abbrev pub bytesMost : ℕ
+bytesMost = 596736
+
+abbrev pub messageMost : ℕ
+messageMost = 1000000
+
+abbrev pub messagesMost : ℕ
+messagesMost = 268435456
+
+abbrev pub transactionMost : ℕ
+transactionMost = 536870912
 
 unfoldable pub timeOf : Time → (holds : List ℕ) → Clock
 timeOf t holds = record { now = t .now; holds = drop (t .next) holds }
@@ -84,7 +103,7 @@ pub record Comes (holds m l : List ℕ) (w : World) (latest : ℕ) (x : Run) : T
 
 -- k symbols went by, and the chips did a deed
 pub record Goes (holds : List ℕ) (k : ℕ) (d : Deed) (address tick : ℕ) (x r : Run) : Type 0 where
-  pub time : Passes holds (symbols k (timeOf (x .time) holds)) (x .time .now + 259 * k) (r .time)
+  pub time : Passes holds (symbols k (timeOf (x .time) holds)) (x .time .now + symbolMost * k) (r .time)
   pub cells : (m : List ℕ) → cellsOf (r .count) (r .seats) m ≡ map (moves d address tick) (cellsOf (x .count) (x .seats) m)
   pub same : r .count ≡ x .count
   pub fits : offset (r .count) (r .seats) ≡ offset (x .count) (x .seats)

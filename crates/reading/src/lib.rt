@@ -1,12 +1,14 @@
 // The plain reading of a list: no wires, and no ticks but their count.
 mod chips;
+mod places;
 mod run;
 mod time;
 
 ghost use mathlib.Core.Path.{_≡_};
-ghost use Rattle.board.specs.Desk.{Outcome};
 ghost use Rattle.reading.specs.Inside.{outcomeOf};
 ghost use Rattle.reading.specs.Read.{plainRun};
+use crate::run::Run;
+use crate::time::Time;
 use board::Answer;
 use board::board_number;
 use board::chip_count;
@@ -15,8 +17,6 @@ use board::save;
 use orders::Checked;
 use orders::check;
 use orders::start;
-use crate::run::Run;
-use crate::time::Time;
 
 fn refused(number: u8) -> Answer
     ensures { λ r. ⌜ r ≡ record { number = number; ticks = 0 } ⌝ }

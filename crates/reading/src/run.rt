@@ -7,16 +7,21 @@ ghost use lib.ListN.{length};
 ghost use Rattle.orders.specs.Kinds.{mostBytes, isCritical};
 ghost use Rattle.orders.specs.Asking.{get};
 ghost use Rattle.orders.specs.Marks.{readMark, noteArea};
-ghost use Rattle.reading.specs.Clock.{pass};
-ghost use Rattle.reading.specs.Plain.{listens, listening, answered, writesAll, readsAll, carried, messageIf, messages, started, closes, transactions};
-ghost use Rattle.reading.specs.Inside.{far, worldOf, Sound, Comes, Goes, Opens, transaction};
-ghost use Rattle.reading.specs.Along.{Within, Few, bytesAt, slotOf, beyond, slotsAt, after, opened, others, batchAt, nextBatch, batchesAt};
-use board::Seat;
+ghost use Rattle.reading.specs.Plain.{listens, answered, writesAll, carried, messageIf, messages, closes, transactions};
+ghost use Rattle.reading.specs.Inside.{far, symbolMost, byteMost, bytesMost, messageMost, messagesMost, transactionMost, worldOf, Sound, Comes, Goes, Opens, transaction};
+ghost use Rattle.reading.specs.Along.{Within, Few, bytesAt, slotOf, beyond, slotsAt, batchAt, batchesAt};
 use crate::chips::Deed;
 use crate::chips::all_move;
 use crate::chips::all_stop;
 use crate::chips::any_listens;
 use crate::chips::value_of;
+use crate::places::Place;
+use crate::places::beyond;
+use crate::places::next_batch;
+use crate::places::opened;
+use crate::places::others;
+use crate::time::Time;
+use board::Seat;
 use orders::Quota;
 use orders::byte_at;
 use orders::data_of;
@@ -24,21 +29,12 @@ use orders::is_critical;
 use orders::is_write;
 use orders::put_at;
 use orders::quota_of;
-use orders::room_at;
-use orders::size_at;
-use crate::time::Time;
 
 // A reading under way: the time, and the first `count` chips, whose memory is lent.
 pub struct Run {
     pub time: Time,
     pub count: usize,
     pub seats: [Seat; 8],
-}
-
-// A place in the list, and the place in the result area that goes with it.
-pub struct Place {
-    pub at: usize,
-    pub slot: usize,
 }
 
 // A byte read goes into the result area, and its message's count rises.
@@ -57,58 +53,10 @@ fn goes_on(said: bool, kind: u8) -> bool
     if said { true } else { !is_critical(kind) }
 }
 
-// The places after a message.
-fn beyond(list: &[u8], place: Place) -> Place
-    requires { ⌜ Within place ⌝ }
-    ensures value { λ r. ⌜ r ≡ beyond (now (list .entry)) place ⌝ }
-    ensures near { λ r. ⌜ (place .at ≤ r .at) × (r .at ≤ place .at + 1024) × (r .slot ≤ place .slot + 1024) ⌝ }
-{
-    let at = place.at as u32;
-    Place {
-        at: place.at + size_at(list, at),
-        slot: place.slot + room_at(list, at),
-    }
-}
-
-// The messages of a transaction after its first.
-fn others(list: &[u8], place: Place) -> u8
-    ensures { λ r. ⌜ r ≡ others (now (list .entry)) place ⌝ }
-{
-    let count = byte_at(list, place.at);
-    if 0 < count { count - 1 } else { 0 }
-}
-
-// Where the first message of a transaction stands.
-fn opened(place: Place) -> Place
-    requires { ⌜ Within place ⌝ }
-    ensures { λ r. ⌜ r ≡ opened place ⌝ }
-{
-    Place {
-        at: place.at + 3,
-        slot: place.slot + 1,
-    }
-}
-
-// The place of the next transaction: sent or not, the messages of this one are passed over.
-fn next_batch(list: &[u8], place: Place) -> Place
-    requires { ⌜ (place .at ≤ 65536) × (place .slot ≤ 68719476736) ⌝ }
-    ensures value { λ r. ⌜ r ≡ nextBatch (now (list .entry)) place ⌝ }
-    ensures later { λ r. ⌜ (place .at + 3 ≤ r .at) × (r .at ≤ place .at + 524288) × (r .slot ≤ place .slot + 524288) ⌝ }
-{
-    let mut left = others(list, place);
-    let first = opened(place);
-    let mut p = beyond(list, first);
-    while 0 < left {
-        p = beyond(list, p);
-        left -= 1;
-    }
-    p
-}
-
 impl Run {
     // So many symbols go by, and the chips do a deed.
     fn goes(self, symbols: u8, address: u8, tick: usize, deed: Deed, holds: &[u8]) -> Run
-        requires { ⌜ (self .count ≤ 8) × (self .time .now + 259 * symbols ≤ far) ⌝ }
+        requires { ⌜ (self .count ≤ 8) × (self .time .now + symbolMost * symbols ≤ far) ⌝ }
         ensures { λ r. ⌜ Goes (now (holds .entry)) symbols deed address tick self r ⌝ }
     {
         let time = self.time;
@@ -123,11 +71,22 @@ impl Run {
     }
 
     // The bytes of a write, to the chips at an address that are free at a tick.
-    fn writes(self, address: u8, tick: usize, slot: usize, from: usize, n: u8, list: &[u8], holds: &[u8], memory: &[u8], results: &mut [u8]) -> Run
-        requires { ⌜ Sound self (now memory) × (self .time .now + 2331 * n ≤ far) × (from ≤ 4294967296) × (slot + 300 ≤ far) ⌝ }
+    fn writes(
+        self,
+        address: u8,
+        tick: usize,
+        slot: usize,
+        from: usize,
+        n: u8,
+        list: &[u8],
+        holds: &[u8],
+        memory: &[u8],
+        results: &mut [u8],
+    ) -> Run
+        requires { ⌜ Sound self (now memory) × (self .time .now + byteMost * n ≤ far) × (from ≤ 4294967296) × (slot + 300 ≤ far) ⌝ }
         ensures { λ r. ⌜ Comes (now (holds .entry)) (now (memory .entry)) (now (results .exit))
             (writesAll (listens address tick) slot 0 (bytesAt n (now (list .entry)) from) (worldOf self (now (holds .entry)) (now (memory .entry)) (now (results .entry))))
-            (self .time .now + 2331 * n) r ⌝ }
+            (self .time .now + byteMost * n) r ⌝ }
     {
         let mut run = self;
         let mut i: u8 = 0;
@@ -141,11 +100,20 @@ impl Run {
     }
 
     // The bytes of a read. How many follow the first is the quota's to say.
-    fn reads(self, address: u8, tick: usize, slot: usize, quota: Quota, holds: &[u8], memory: &[u8], results: &mut [u8]) -> Run
-        requires { ⌜ Sound self (now memory) × (self .time .now + 596736 ≤ far) × (slot + 300 ≤ far) × Few quota ⌝ }
+    fn reads(
+        self,
+        address: u8,
+        tick: usize,
+        slot: usize,
+        quota: Quota,
+        holds: &[u8],
+        memory: &[u8],
+        results: &mut [u8],
+    ) -> Run
+        requires { ⌜ Sound self (now memory) × (self .time .now + bytesMost ≤ far) × (slot + 300 ≤ far) × Few quota ⌝ }
         ensures { λ r. ⌜ Comes (now (holds .entry)) (now (memory .entry)) (now (results .exit))
             (carried (listens address tick) slot (get quota) (worldOf self (now (holds .entry)) (now (memory .entry)) (now (results .entry))))
-            (self .time .now + 596736) r ⌝ }
+            (self .time .now + bytesMost) r ⌝ }
     {
         let seats = self.seats;
         let first = value_of(seats, self.count, address, tick, memory);
@@ -168,7 +136,7 @@ impl Run {
 
     // Does a chip answer to the message at a place? That is decided when the eighth bit of the address byte is delivered.
     fn answered(self, place: Place, list: &[u8], holds: &[u8]) -> bool
-        requires { ⌜ (self .count ≤ 8) × (self .time .now + 2331 ≤ far) ⌝ }
+        requires { ⌜ (self .count ≤ 8) × (self .time .now + byteMost ≤ far) ⌝ }
         ensures { λ r. ⌜ ((m l : List ℕ) → r ≡ answered (slotOf (now (list .entry)) place) (worldOf self (now (holds .entry)) m l)) ⌝ }
     {
         let time = self.time;
@@ -179,11 +147,19 @@ impl Run {
     }
 
     // The message at a place, after its START.
-    fn message(self, said: bool, place: Place, list: &[u8], holds: &[u8], memory: &[u8], results: &mut [u8]) -> Run
-        requires { ⌜ Sound self (now memory) × (self .time .now + 1000000 ≤ far) × Within place ⌝ }
+    fn message(
+        self,
+        said: bool,
+        place: Place,
+        list: &[u8],
+        holds: &[u8],
+        memory: &[u8],
+        results: &mut [u8],
+    ) -> Run
+        requires { ⌜ Sound self (now memory) × (self .time .now + messageMost ≤ far) × Within place ⌝ }
         ensures { λ r. ⌜ Comes (now (holds .entry)) (now (memory .entry)) (now (results .exit))
             (messageIf (slotOf (now (list .entry)) place) said (worldOf self (now (holds .entry)) (now (memory .entry)) (now (results .entry))))
-            (self .time .now + 1000000) r ⌝ }
+            (self .time .now + messageMost) r ⌝ }
     {
         let time = self.time;
         let seats = self.seats;
@@ -202,17 +178,43 @@ impl Run {
         let asked = byte_at(list, place.at + 2);
         put_at(results, place.slot, 1);
         if is_write(kind) {
-            return run.writes(address, eighth.now, place.slot, place.at + 3, data_of(kind, asked), list, holds, memory, results);
+            return run.writes(
+                address,
+                eighth.now,
+                place.slot,
+                place.at + 3,
+                data_of(kind, asked),
+                list,
+                holds,
+                memory,
+                results,
+            );
         }
-        run.reads(address, eighth.now, place.slot, quota_of(kind, asked), holds, memory, results)
+        run.reads(
+            address,
+            eighth.now,
+            place.slot,
+            quota_of(kind, asked),
+            holds,
+            memory,
+            results,
+        )
     }
 
     // A message and those after it. A critical one that is not answered is the last: what comes after it may rest on its bytes.
-    fn messages(self, first: Place, others: u8, list: &[u8], holds: &[u8], memory: &[u8], results: &mut [u8]) -> Run
-        requires { ⌜ Sound self (now memory) × (self .time .now + 268435456 ≤ far) × (first .at ≤ 131072) × (first .slot ≤ 137438953472) ⌝ }
+    fn messages(
+        self,
+        first: Place,
+        others: u8,
+        list: &[u8],
+        holds: &[u8],
+        memory: &[u8],
+        results: &mut [u8],
+    ) -> Run
+        requires { ⌜ Sound self (now memory) × (self .time .now + messagesMost ≤ far) × (first .at ≤ 131072) × (first .slot ≤ 137438953472) ⌝ }
         ensures { λ r. ⌜ Comes (now (holds .entry)) (now (memory .entry)) (now (results .exit))
             (messages (slotsAt others (now (list .entry)) (beyond (now (list .entry)) first)) (slotOf (now (list .entry)) first) (worldOf self (now (holds .entry)) (now (memory .entry)) (now (results .entry))))
-            (self .time .now + 268435456) r ⌝ }
+            (self .time .now + messagesMost) r ⌝ }
     {
         let mut run = self;
         let mut place = first;
@@ -250,11 +252,18 @@ impl Run {
     }
 
     // STOP, after which the outcome is 0.
-    fn closes(self, top: usize, asked: u16, holds: &[u8], memory: &mut [u8], results: &mut [u8]) -> Run
-        requires { ⌜ Sound self (now memory) × (self .time .now + 259 ≤ far) ⌝ }
+    fn closes(
+        self,
+        top: usize,
+        asked: u16,
+        holds: &[u8],
+        memory: &mut [u8],
+        results: &mut [u8],
+    ) -> Run
+        requires { ⌜ Sound self (now memory) × (self .time .now + symbolMost ≤ far) ⌝ }
         ensures { λ r. ⌜ Comes (now (holds .entry)) (now (memory .exit)) (now (results .exit))
             (closes asked top (worldOf self (now (holds .entry)) (now (memory .entry)) (now (results .entry))))
-            (self .time .now + 259) r ⌝ }
+            (self .time .now + symbolMost) r ⌝ }
     {
         let time = self.time;
         let seats = self.seats;
@@ -269,31 +278,50 @@ impl Run {
     }
 
     // The transaction at a place.
-    fn transaction(self, place: Place, list: &[u8], holds: &[u8], asked: u16, memory: &mut [u8], results: &mut [u8]) -> Run
-        requires { ⌜ Sound self (now memory) × (self .time .now + 536870912 ≤ far) × (place .at ≤ 65536) × (place .slot ≤ 68719476736) ⌝ }
+    fn transaction(
+        self,
+        place: Place,
+        list: &[u8],
+        holds: &[u8],
+        asked: u16,
+        memory: &mut [u8],
+        results: &mut [u8],
+    ) -> Run
+        requires { ⌜ Sound self (now memory) × (self .time .now + transactionMost ≤ far) × (place .at ≤ 65536) × (place .slot ≤ 68719476736) ⌝ }
         ensures { λ r. ⌜ Comes (now (holds .entry)) (now (memory .exit)) (now (results .exit))
             (transaction asked (batchAt (now (list .entry)) place) (worldOf self (now (holds .entry)) (now (memory .entry)) (now (results .entry))))
-            (self .time .now + 536870912) r ⌝ }
+            (self .time .now + transactionMost) r ⌝ }
     {
         let low = byte_at(list, place.at + 1) as usize;
         let high = byte_at(list, place.at + 2) as usize;
         let begun = self.opens(low + 256 * high + 4, holds);
-        let sent = begun.messages(opened(place), others(list, place), list, holds, memory, results);
+        let sent = begun.messages(
+            opened(place),
+            others(list, place),
+            list,
+            holds,
+            memory,
+            results,
+        );
         sent.closes(place.slot, asked, holds, memory, results)
     }
 
     // All transactions of a list.
-    pub fn transactions(self, list: &[u8], holds: &[u8], asked: u16, memory: &mut [u8], results: &mut [u8]) -> Run
+    pub fn transactions(
+        self,
+        list: &[u8],
+        holds: &[u8],
+        asked: u16,
+        memory: &mut [u8],
+        results: &mut [u8],
+    ) -> Run
         requires { ⌜ Sound self (now memory) × (self .time .now ≤ 0) × (length (now list) ≤ mostBytes) ⌝ }
         ensures { λ r. ⌜ Comes (now (holds .entry)) (now (memory .exit)) (now (results .exit))
             (transactions asked (batchesAt (suc (length (now (list .entry)))) (now (list .entry)) (record { at = 0; slot = 0 })) (worldOf self (now (holds .entry)) (now (memory .entry)) (now (results .entry))))
             far r ⌝ }
     {
         let mut run = self;
-        let mut place = Place {
-            at: 0,
-            slot: 0,
-        };
+        let mut place = Place { at: 0, slot: 0 };
         while place.at < list.len() {
             run = run.transaction(place, list, holds, asked, memory, results);
             place = next_batch(list, place);

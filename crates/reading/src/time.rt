@@ -1,7 +1,7 @@
 // Time without wires: ticks are counted a symbol at a time.
 ghost use Prim.Native.Nat.{_+_, _*_, _≤_};
 ghost use Rattle.reading.specs.Clock.{symbol, symbols, pass};
-ghost use Rattle.reading.specs.Inside.{far, timeOf, Passes};
+ghost use Rattle.reading.specs.Inside.{far, symbolMost, timeOf, Passes};
 
 // The ticks gone by, and the place in the hold list of the next clocked symbol.
 pub struct Time {
@@ -12,8 +12,8 @@ pub struct Time {
 impl Time {
     // A clocked symbol: four ticks and its held ones. Past the list's end none is held.
     pub fn symbol(self, holds: &[u8]) -> Time
-        requires { ⌜ self .now + 259 ≤ far ⌝ }
-        ensures { λ r. ⌜ Passes (now (holds .entry)) (symbol (timeOf self (now (holds .entry)))) (self .now + 259) r ⌝ }
+        requires { ⌜ self .now + symbolMost ≤ far ⌝ }
+        ensures { λ r. ⌜ Passes (now (holds .entry)) (symbol (timeOf self (now (holds .entry)))) (self .now + symbolMost) r ⌝ }
     {
         let next = self.next;
         if next < holds.len() {
@@ -31,8 +31,8 @@ impl Time {
 
     // So many of them.
     pub fn symbols(self, n: u8, holds: &[u8]) -> Time
-        requires { ⌜ self .now + 259 * n ≤ far ⌝ }
-        ensures { λ r. ⌜ Passes (now (holds .entry)) (symbols n (timeOf self (now (holds .entry)))) (self .now + 259 * n) r ⌝ }
+        requires { ⌜ self .now + symbolMost * n ≤ far ⌝ }
+        ensures { λ r. ⌜ Passes (now (holds .entry)) (symbols n (timeOf self (now (holds .entry)))) (self .now + symbolMost * n) r ⌝ }
     {
         let mut time = self;
         let mut i: u8 = 0;

@@ -2,7 +2,6 @@
 use denote.Ref.{now}
 use Rattle.reading.proofs.Counting.{unmapped}
 use mathlib.Core.Path.{sym, _∙_}
-use native.Mathlib.Omega.{arith}
 use Rattle.reading.proofs.Entry.{too-long, not-of-the-form, board-wrong, area-too-small, begun-sound, short, row-long, ran-so}
 use borrow.Author.Needs.{needs}
 use Rattle.reading.proofs.read.Statement.{statement}

@@ -1,6 +1,6 @@
 -- `reading::chips::all_move` meets its contract, chip after chip. Assumes nothing.
 use Prim.Native.Nat.{_-_, _≤_}
-use mathlib.Core.Path.{_≡_, refl}
+use mathlib.Core.Path.{_≡_}
 use lib.ListN.{length}
 use Rattle.board.proofs.Done.{done, done-step}
 use Rattle.reading.specs.Inside.{seatMoves}

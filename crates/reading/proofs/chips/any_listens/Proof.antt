@@ -2,7 +2,7 @@
 use Prim.Native.Nat.{ℕ, _-_, _≤_}
 use mathlib.Core.Path.{_≡_, refl}
 use mathlib.Core.List.{List}
-use lib.ListN.{length, drop}
+use lib.ListN.{drop}
 use Rattle.reading.specs.Plain.{listens, anyOf}
 use Rattle.reading.specs.Inside.{cellsOf}
 use Rattle.reading.proofs.Cells.{one-listens, not-this-one, none-listens}

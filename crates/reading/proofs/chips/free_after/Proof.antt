@@ -1,5 +1,4 @@
 -- `reading::chips::free_after` meets its contract. Assumes nothing.
-use mathlib.Core.Bool.{cond}
 use borrow.Author.Needs.{needs}
 use Rattle.reading.proofs.chips.free_after.Statement.{statement}
 use Rattle.reading.proofs.chips.free_after.Tie as tie

@@ -1,7 +1,7 @@
 -- `reading::chips::value_of` meets its contract, chip after chip. Assumes nothing.
-use Prim.Native.Nat.{ℕ, _-_, _≤_}
+use Prim.Native.Nat.{_-_, _≤_}
 use mathlib.Core.Path.{_≡_, refl}
-use lib.ListN.{length, drop}
+use lib.ListN.{drop}
 use Rattle.board.specs.Seats.{offset}
 use Rattle.reading.specs.Plain.{listens, valueOf}
 use Rattle.reading.specs.Inside.{cellsOf}

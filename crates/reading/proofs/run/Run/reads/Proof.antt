@@ -3,7 +3,7 @@ use Prim.Native.Nat.{_+_, _*_, _≤_}
 use mathlib.Core.Path.{_≡_, refl, _∙_}
 use lib.ListN.{length}
 use Rattle.reading.specs.Plain.{listens, readsAll}
-use Rattle.reading.specs.Inside.{worldOf, Sound}
+use Rattle.reading.specs.Inside.{byteMost, worldOf, Sound}
 use Rattle.reading.proofs.Going.{still-sound}
 use Rattle.reading.proofs.Bytewise.{Reading, one-read, first-read, all-read}
 use borrow.Author.Needs.{needs}
@@ -11,7 +11,7 @@ use Rattle.reading.proofs.run.Run.reads.Statement.{statement}
 use Rattle.reading.proofs.run.Run.reads.Tie as tie
 
 abbrev Inv-loop : tie.InvT-loop
-Inv-loop address tick slot holds memory results₀ first more₀ run₀ left₀ count₀ results more run left count = (length results ≡ length results₀) × Sound run memory × (count + more ≤ 255) × (run .time .now + 2331 * more ≤ run₀ .time .now + 2331 * more₀) × Reading address tick slot holds memory count left more run results (readsAll (listens address tick) slot count₀ left₀ more₀ (worldOf run₀ holds memory results₀))
+Inv-loop address tick slot holds memory results₀ first more₀ run₀ left₀ count₀ results more run left count = (length results ≡ length results₀) × Sound run memory × (count + more ≤ 255) × (run .time .now + byteMost * more ≤ run₀ .time .now + byteMost * more₀) × Reading address tick slot holds memory count left more run results (readsAll (listens address tick) slot count₀ left₀ more₀ (worldOf run₀ holds memory results₀))
 
 abbrev μ-loop : tie.MeasureT-loop
 μ-loop address tick slot holds memory results₀ first more₀ run₀ left₀ count₀ results more run left count = more

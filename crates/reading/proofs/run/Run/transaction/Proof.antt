@@ -1,6 +1,5 @@
 -- `reading::run::Run::transaction` meets its contract. Assumes nothing.
 use denote.Ref.{now}
-use mathlib.Core.Path.{_∙_}
 use Rattle.reading.proofs.Going.{opened-sound}
 use Rattle.reading.proofs.Walking.{opened-near}
 use Rattle.reading.proofs.Transactions.{whole-so}

@@ -4,7 +4,7 @@ use mathlib.Core.Path.{_≡_, refl, _∙_}
 use lib.ListN.{length}
 use Rattle.orders.proofs.KindLaws.{most-bytes}
 use Rattle.reading.specs.Plain.{transactions}
-use Rattle.reading.specs.Inside.{worldOf, Sound}
+use Rattle.reading.specs.Inside.{transactionMost, worldOf, Sound}
 use Rattle.reading.specs.Along.{batchesAt}
 use Rattle.reading.proofs.Transactions.{Leaves, none-yet, one-done, all-done}
 use borrow.Author.Needs.{needs}
@@ -12,7 +12,7 @@ use Rattle.reading.proofs.run.Run.transactions.Statement.{statement}
 use Rattle.reading.proofs.run.Run.transactions.Tie as tie
 
 abbrev Inv-loop : tie.InvT-loop
-Inv-loop list holds asked memory₀ results₀ run₀ place₀ memory results run place = (length memory ≡ length memory₀) × (length results ≡ length results₀) × Sound run memory × (run .time .now ≤ 536870912 * place .at) × (place .slot ≤ 524288 * place .at) × (place .at ≤ 1048576) × Leaves holds list asked place run memory results (transactions asked (batchesAt (suc (length list)) list place₀) (worldOf run₀ holds memory₀ results₀))
+Inv-loop list holds asked memory₀ results₀ run₀ place₀ memory results run place = (length memory ≡ length memory₀) × (length results ≡ length results₀) × Sound run memory × (run .time .now ≤ transactionMost * place .at) × (place .slot ≤ 524288 * place .at) × (place .at ≤ 1048576) × Leaves holds list asked place run memory results (transactions asked (batchesAt (suc (length list)) list place₀) (worldOf run₀ holds memory₀ results₀))
 
 abbrev μ-loop : tie.MeasureT-loop
 μ-loop list holds asked memory₀ results₀ run₀ place₀ memory results run place = length list - place .at

@@ -3,7 +3,7 @@ use Prim.Native.Nat.{_+_, _*_, _-_, _≤_}
 use mathlib.Core.Path.{_≡_, refl, _∙_}
 use lib.ListN.{length}
 use Rattle.reading.specs.Plain.{listens, writesAll}
-use Rattle.reading.specs.Inside.{worldOf, Sound}
+use Rattle.reading.specs.Inside.{byteMost, worldOf, Sound}
 use Rattle.reading.specs.Along.{bytesAt}
 use Rattle.reading.proofs.Going.{still-sound}
 use Rattle.reading.proofs.Bytewise.{Writing, none-written, one-written, all-written}
@@ -12,7 +12,7 @@ use Rattle.reading.proofs.run.Run.writes.Statement.{statement}
 use Rattle.reading.proofs.run.Run.writes.Tie as tie
 
 abbrev Inv-loop : tie.InvT-loop
-Inv-loop address tick slot from n list holds memory results₀ run₀ i₀ results run i = (i ≤ n) × (length results ≡ length results₀) × Sound run memory × (run .time .now ≤ run₀ .time .now + 2331 * i) × Writing address tick slot holds memory list from n i run results (writesAll (listens address tick) slot 0 (bytesAt n list from) (worldOf run₀ holds memory results₀))
+Inv-loop address tick slot from n list holds memory results₀ run₀ i₀ results run i = (i ≤ n) × (length results ≡ length results₀) × Sound run memory × (run .time .now ≤ run₀ .time .now + byteMost * i) × Writing address tick slot holds memory list from n i run results (writesAll (listens address tick) slot 0 (bytesAt n list from) (worldOf run₀ holds memory results₀))
 
 abbrev μ-loop : tie.MeasureT-loop
 μ-loop address tick slot from n list holds memory results₀ run₀ i₀ results run i = n - i

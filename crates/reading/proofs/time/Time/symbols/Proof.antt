@@ -2,14 +2,14 @@
 use Prim.Native.Nat.{_+_, _*_, _-_, _≤_}
 use mathlib.Core.Path.{_≡_}
 use Rattle.reading.specs.Clock.{symbols}
-use Rattle.reading.specs.Inside.{timeOf}
+use Rattle.reading.specs.Inside.{symbolMost, timeOf}
 use Rattle.reading.proofs.Ticking.{none-gone, symbol-more, symbols-gone}
 use borrow.Author.Needs.{needs}
 use Rattle.reading.proofs.time.Time.symbols.Statement.{statement}
 use Rattle.reading.proofs.time.Time.symbols.Tie as tie
 
 abbrev Inv-loop : tie.InvT-loop
-Inv-loop n holds time₀ i₀ time i = (i ≤ n) × (time .now ≤ time₀ .now + 259 * i) × (symbols (n - i) (timeOf time holds) ≡ symbols n (timeOf time₀ holds))
+Inv-loop n holds time₀ i₀ time i = (i ≤ n) × (time .now ≤ time₀ .now + symbolMost * i) × (symbols (n - i) (timeOf time holds) ≡ symbols n (timeOf time₀ holds))
 
 abbrev μ-loop : tie.MeasureT-loop
 μ-loop n holds time₀ i₀ time i = n - i

@@ -1,9 +1,9 @@
--- `reading::run::beyond` meets its contract. Assumes nothing.
+-- `reading::places::beyond` meets its contract. Assumes nothing.
 use denote.Ref.{now}
 use Rattle.reading.proofs.Walking.{beyond-so}
 use borrow.Author.Needs.{needs}
-use Rattle.reading.proofs.run.beyond.Statement.{statement}
-use Rattle.reading.proofs.run.beyond.Tie as tie
+use Rattle.reading.proofs.places.beyond.Statement.{statement}
+use Rattle.reading.proofs.places.beyond.Tie as tie
 
 pub beyond-spec : {M : Type 1} → statement M
 beyond-spec =

@@ -1,11 +1,11 @@
--- `reading::run::next_batch` meets its contract, message after message. Assumes nothing.
+-- `reading::places::next_batch` meets its contract, message after message. Assumes nothing.
 use Prim.Native.Nat.{_+_, _*_, _-_, _≤_}
 use mathlib.Core.Path.{_≡_, refl}
 use Rattle.reading.specs.Along.{after}
 use Rattle.reading.proofs.Walking.{opened-near, one-passed, all-passed, next-so}
 use borrow.Author.Needs.{needs}
-use Rattle.reading.proofs.run.next_batch.Statement.{statement}
-use Rattle.reading.proofs.run.next_batch.Tie as tie
+use Rattle.reading.proofs.places.next_batch.Statement.{statement}
+use Rattle.reading.proofs.places.next_batch.Tie as tie
 
 abbrev Inv-loop : tie.InvT-loop
 Inv-loop list left₀ p₀ left p = (left ≤ left₀) × (p₀ .at ≤ p .at) × (p .at ≤ p₀ .at + 1024 * (left₀ - left)) × (p .slot ≤ p₀ .slot + 1024 * (left₀ - left)) × (after left list p ≡ after left₀ list p₀)
