@@ -5,9 +5,9 @@ use io::print_decimal;
 use io::print_hex;
 use io::read_full;
 use io::write_all;
-use lines::byte_at;
 use libc::STDIN_FILENO;
 use libc::STDOUT_FILENO;
+use lines::byte_at;
 use orders::Checked;
 use orders::check;
 
@@ -56,7 +56,16 @@ fn bench(list: &[u8]) {
     let holds = [0u8; 1];
     let mut results = [0u8; 131072];
     let mut trace = [0u8; 1];
-    let answer = run(list, 1, &mut memory, &mut states, &holds[..0], 8000, &mut results, &mut trace[..0]);
+    let answer = run(
+        list,
+        1,
+        &mut memory,
+        &mut states,
+        &holds[..0],
+        8000,
+        &mut results,
+        &mut trace[..0],
+    );
     if answer.number != 0 {
         refuse(answer.number);
         return;
