@@ -268,7 +268,8 @@ fn decode(samples: &[u8]) -> Option<String> {
     std::fs::remove_file(&file).expect("the temporary file");
     match output {
         Ok(output) => {
-            assert!(output.status.success() && output.stderr.is_empty(), "sigrok-cli: {}", String::from_utf8_lossy(&output.stderr));
+            eprint!("{}", String::from_utf8_lossy(&output.stderr));
+            assert!(output.status.success(), "sigrok-cli failed");
             Some(String::from_utf8(output.stdout).expect("plain text from sigrok-cli"))
         }
         Err(why) if why.kind() == std::io::ErrorKind::NotFound => None,
