@@ -71,6 +71,14 @@ fn pointer_then_read() {
 }
 
 #[test]
+fn read_over_the_memorys_end() {
+    let mut board = Board::new(4095, 0);
+    (board.memory[4095], board.memory[0]) = (0x5E, 0x5A);
+    assert_eq!(board.ran(&[1, 0, 0, 0x50, 1, 2], &[]), (116, vec![0, 1, 2, 0x5E, 0x5A]));
+    assert_eq!(board.pointer(), 1);
+}
+
+#[test]
 fn free_just_in_time() {
     for (wait, flag) in [(7964u16, 1), (7963, 0)] {
         let [low, high] = wait.to_le_bytes();
