@@ -317,7 +317,8 @@ fn main() {
     let cases: u64 = words.next().map_or(if test { 20 } else { 550 }, |w| w.parse().expect("a number of cases"));
     let first: u64 = words.next().map_or(20_261_115, |w| w.parse().expect("a seed"));
     let record = Record::new(cases, first);
-    println!("sigrok: {cases} cases from seed {first}, {} ticks, {} of them held; cases with 0 to 8 chips: {:?}", record.samples.len(), record.held, record.chips);
+    let (ticks, held, chips) = (record.samples.len(), record.held, record.chips);
+    println!("sigrok: {cases} cases from seed {first}, {ticks} ticks, {held} of them held; cases with 0 to 8 chips: {chips:?}");
     let Some(said) = decode(&record.samples) else {
         let ci = std::env::var_os("CI").is_some_and(|set| !set.is_empty());
         println!("sigrok: there is no sigrok-cli here: {}", if ci { "nothing was judged" } else { "skipped" });
