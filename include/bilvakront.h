@@ -15,8 +15,9 @@
  *    9  drive buffer shorter than the samples
  *   10  a strap over 7
  *
- * Every pointer comes with its length; a length of 0 may come with any
- * pointer that is not null. Areas that are written must not overlap any other.
+ * Every area comes as a pointer and its length; a length of 0 may come with
+ * any pointer that is not null. `ticks` and `end` point to one number each, and
+ * are not null. Areas that are written must not overlap any other.
  * What each function writes is proved to be what the definitions under
  * crates/.../specs say, for every input.
  */

@@ -9,6 +9,12 @@ mod raw {
             results: *mut u8, results_len: usize, trace: *mut u8, trace_len: usize,
             ticks: *mut u64,
         ) -> u8;
+        pub fn bilvakront_plain_reading(
+            list: *const u8, list_len: usize, marks: u8,
+            memory: *mut u8, memory_len: usize, states: *mut u8, states_len: usize,
+            holds: *const u8, holds_len: usize, asked: u16,
+            results: *mut u8, results_len: usize, ticks: *mut u64,
+        ) -> u8;
         pub fn bilvakront_controller_alone(
             list: *const u8, list_len: usize, samples: *const u8, samples_len: usize,
             drives: *mut u8, drives_len: usize, results: *mut u8, results_len: usize,
@@ -49,6 +55,20 @@ pub fn bus_run(
         raw::bilvakront_bus_run(
             list.as_ptr(), list.len(), marks, memory.as_mut_ptr(), memory.len(), states.as_mut_ptr(), states.len(),
             holds.as_ptr(), holds.len(), asked, results.as_mut_ptr(), results.len(), trace.as_mut_ptr(), trace.len(), &mut ticks,
+        )
+    };
+    Answer { number, ticks }
+}
+
+/// The plain reading of the same list: the same answers without wires.
+pub fn plain_reading(
+    list: &[u8], marks: u8, memory: &mut [u8], states: &mut [u8], holds: &[u8], asked: u16, results: &mut [u8],
+) -> Answer {
+    let mut ticks = 0;
+    let number = unsafe {
+        raw::bilvakront_plain_reading(
+            list.as_ptr(), list.len(), marks, memory.as_mut_ptr(), memory.len(), states.as_mut_ptr(), states.len(),
+            holds.as_ptr(), holds.len(), asked, results.as_mut_ptr(), results.len(), &mut ticks,
         )
     };
     Answer { number, ticks }

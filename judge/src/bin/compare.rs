@@ -32,6 +32,17 @@ fn bus(seed: u64, mut ours: cases::BusCase, tally: &mut Tally) {
     tally.count(want.number, want.ticks);
 }
 
+fn plain(seed: u64, mut ours: cases::BusCase, tally: &mut Tally) {
+    let mut theirs = ours.clone();
+    let case = ours.clone();
+    let want = theirs.read();
+    let got =
+        bilvakront::plain_reading(&ours.list, ours.marks, &mut ours.memory, &mut ours.states, &ours.holds, ours.asked, &mut ours.results);
+    assert_eq!((got.number, got.ticks), (want.number, want.ticks), "plain reading, seed {seed}: {case:?}");
+    assert!(ours == theirs, "plain reading, areas differ, seed {seed}: {case:?}");
+    tally.count(want.number, want.ticks);
+}
+
 fn end_of(end: bilvakront::End) -> second::End {
     match end {
         bilvakront::End::ListEnd => second::End::ListEnd,
@@ -66,17 +77,20 @@ fn main() {
     let cases: u64 = words.next().map_or(24_000, |w| w.parse().expect("a number of cases"));
     let first: u64 = words.next().map_or(20_261_115, |w| w.parse().expect("a seed"));
     println!("compare: {cases} cases from seed {first}");
-    let mut tallies = [("whole-bus run", Tally { accepted: 0, refused: 0, ticks: 0 }), ("controller alone", Tally { accepted: 0, refused: 0, ticks: 0 }), ("one chip alone", Tally { accepted: 0, refused: 0, ticks: 0 })];
+    let names = ["whole-bus run", "plain reading", "controller alone", "one chip alone"];
+    let mut tallies = names.map(|name| (name, Tally { accepted: 0, refused: 0, ticks: 0 }));
     for i in 0..cases {
         let seed = first.wrapping_add(i);
         let rng = &mut Rng::new(seed);
-        match i % 6 {
+        match i % 8 {
             0 => bus(seed, cases::bus(rng), &mut tallies[0].1),
             1 => bus(seed, cases::bus_damaged(rng), &mut tallies[0].1),
-            2 => controller(seed, cases::controller(rng), &mut tallies[1].1),
-            3 => controller(seed, cases::controller_damaged(rng), &mut tallies[1].1),
-            4 => chip(seed, cases::chip(rng), &mut tallies[2].1),
-            _ => chip(seed, cases::chip_damaged(rng), &mut tallies[2].1),
+            2 => plain(seed, cases::bus(rng), &mut tallies[1].1),
+            3 => plain(seed, cases::bus_damaged(rng), &mut tallies[1].1),
+            4 => controller(seed, cases::controller(rng), &mut tallies[2].1),
+            5 => controller(seed, cases::controller_damaged(rng), &mut tallies[2].1),
+            6 => chip(seed, cases::chip(rng), &mut tallies[3].1),
+            _ => chip(seed, cases::chip_damaged(rng), &mut tallies[3].1),
         }
     }
     for (name, t) in &tallies {
