@@ -267,11 +267,11 @@ impl Run {
     {
         let time = self.time;
         let seats = self.seats;
-        let later = time.symbol(holds);
-        let next = all_stop(seats, self.count, later.now, asked, memory);
+        let end = time.symbol(holds);
+        let next = all_stop(seats, self.count, end.now, asked, memory);
         put_at(results, top, 0);
         Run {
-            time: later,
+            time: end,
             count: self.count,
             seats: next,
         }
