@@ -1,5 +1,7 @@
 //! Safe Rust over the proved static library: the entries on slices. Nothing here decides anything; the promises are those of `include/bilvakront.h`.
 
+pub mod bench;
+
 mod raw {
     extern "C" {
         pub fn bilvakront_bus_run(
