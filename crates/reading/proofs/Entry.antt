@@ -16,12 +16,13 @@ use Rattle.orders.specs.Kinds.{mostBytes}
 use Rattle.orders.specs.Results.{startArea, checkOf}
 use Rattle.orders.specs.Start.{startedOf}
 use Rattle.orders.specs.declared.Break.{Break}
+use Rattle.orders.specs.declared.Checked.{Checked}
 use Rattle.orders.specs.declared.Checked.the-variants.{Accepted, TooLong, Broken}
 use Rattle.orders.proofs.Stands.{holds}
 use Rattle.orders.proofs.Starts.{starts}
 use Rattle.eeprom.specs.States.{mostBusy}
 use Rattle.board.specs.Marks.{memoryAt, bodies, memories, stateRow}
-use Rattle.board.specs.Desk.{statesRight, boardNumber, busNumber}
+use Rattle.board.specs.Desk.{Outcome, statesRight, boardNumber, busNumber}
 use Rattle.board.specs.Seats.{Seated, seated, offset, seatsFrom, seatRow}
 use Rattle.board.specs.Seats as seats
 use Rattle.board.specs.declared.Answer.{Answer}
@@ -31,7 +32,7 @@ use Rattle.board.proofs.Seated.{all-together}
 use Rattle.board.proofs.Saving.{seat-row}
 use Rattle.reading.specs.Plain.{Cell, World, transactions}
 use Rattle.reading.specs.Read.{cellOf, bodyOf, plain, plainRun}
-use Rattle.reading.specs.Inside.{far, timeOf, cellOn, cellsOf, worldOf, Sound, Comes, outcomeOf}
+use Rattle.reading.specs.Inside.{far, timeOf, cellOn, cellsOf, worldOf, Sound, Comes}
 use Rattle.reading.specs.Along.{batchesAt}
 use Rattle.reading.specs.declared.run.Run.{Run}
 use Rattle.reading.proofs.Listed.{listed}
@@ -71,6 +72,9 @@ board-fits marks memory states held asked e = cases (eqb (length memory) (memory
 
 -- what the desk turns down
 
+abbrev outcomeOf : Answer → (memory states results : List ℕ) → Outcome
+outcomeOf r m st l = record { answer = r; memory = m; states = st; results = l }
+
 module _ (list : List ℕ) (marks : ℕ) (memory states held : List ℕ) (asked : ℕ) (results : List ℕ) where
   abbrev number : ℕ
   number = busNumber list marks memory states held asked results
@@ -79,16 +83,20 @@ module _ (list : List ℕ) (marks : ℕ) (memory states held : List ℕ) (asked 
   unfolding plainRun
   turned-down n a e ae = rw (e, ne-eqb (suc n) 0 (λ z. omega arith), ae)
 
-  pub too-long : (a : Answer) → a ≡ record { number = 1; ticks = 0 } → checkOf list ≡ TooLong → outcomeOf a memory states results ≡ plainRun list marks memory states held asked results
-  unfolding busNumber
-  too-long a ae c = let first : number ≡ 1 = rw c in turned-down 0 a first ae
+  module _ (x : Checked) (checked : x ≡ checkOf list) where
+    pub too-long : (a : Answer) → x ≡ TooLong → a ≡ record { number = 1; ticks = 0 } → outcomeOf a memory states results ≡ plainRun list marks memory states held asked results
+    unfolding busNumber
+    too-long a c ae = let first : number ≡ 1 = rw (← checked, c) in turned-down 0 a first ae
 
-  pub not-of-the-form : (a : Answer) (b : Break) → a ≡ record { number = 2; ticks = 0 } → checkOf list ≡ Broken b
-      → outcomeOf a memory states results ≡ plainRun list marks memory states held asked results
-  unfolding busNumber
-  not-of-the-form a b ae c = let first : number ≡ 2 = rw c in turned-down 1 a first ae
+    pub not-of-the-form : (a : Answer) (b : Break) → x ≡ Broken b → a ≡ record { number = 2; ticks = 0 }
+        → outcomeOf a memory states results ≡ plainRun list marks memory states held asked results
+    unfolding busNumber
+    not-of-the-form a b c ae = let first : number ≡ 2 = rw (← checked, c) in turned-down 1 a first ae
 
-  module _ (size : ℕ) (right : checkOf list ≡ Accepted size) (n : ℕ) (board : n ≡ boardNumber marks memory states held asked) where
+  module _ (x : Checked) (checked : x ≡ checkOf list) (size : ℕ) (accepted : x ≡ Accepted size) (n : ℕ) (board : n ≡ boardNumber marks memory states held asked) where
+    right : checkOf list ≡ Accepted size
+    right = sym checked ∙ accepted
+
     after-list : number ≡ n then no 7 (ltb (length results) size)
     unfolding busNumber
     after-list = rw (right, ← board, holds list size right .area)

@@ -8,8 +8,6 @@ use Rattle.orders.specs.Results.{Batch}
 use Rattle.eeprom.specs.Keeping.{Kept, keptOf, geo, takesAt, takes, stepped, steps, emptied, starts}
 use Rattle.eeprom.specs.declared.Store.{Store}
 use Rattle.board.specs.Seats.{Seated, seated, offset}
-use Rattle.board.specs.Desk.{Outcome}
-use Rattle.board.specs.declared.Answer.{Answer}
 use Rattle.board.specs.declared.Seat.{Seat}
 use Rattle.reading.specs.Clock.{Clock, symbols, pass}
 use Rattle.reading.specs.Plain.{Cell, World, listens, does, only, messages, started, closes}
@@ -118,6 +116,3 @@ pub record Opens (holds : List ℕ) (n : ℕ) (x r : Run) : Type 0 where
 -- one transaction, from its wait to its STOP
 abbrev pub transaction : (asked : ℕ) → Batch → World → World
 transaction asked b w = closes asked (b .top) (messages (b .others) (b .first) (started (pass (b .wait + 4) (w .clock)) w))
-
-abbrev pub outcomeOf : Answer → (memory states results : List ℕ) → Outcome
-outcomeOf r m st l = record { answer = r; memory = m; states = st; results = l }

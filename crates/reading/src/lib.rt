@@ -5,7 +5,7 @@ mod run;
 mod time;
 
 ghost use mathlib.Core.Path.{_≡_};
-ghost use Rattle.reading.specs.Inside.{outcomeOf};
+ghost use Rattle.board.specs.Desk.{Outcome};
 ghost use Rattle.reading.specs.Read.{plainRun};
 use crate::run::Run;
 use crate::time::Time;
@@ -37,8 +37,8 @@ pub fn read(
     asked: u16,
     results: &mut [u8],
 ) -> Answer
-    ensures { λ r. ⌜ outcomeOf r (now (memory .exit)) (now (states .exit)) (now (results .exit))
-        ≡ plainRun (now (list .entry)) marks (now (memory .entry)) (now (states .entry)) (now (holds .entry)) asked (now (results .entry)) ⌝ }
+    ensures { λ r. ⌜ _≡_ {A = Outcome} (record { answer = r; memory = now (memory .exit); states = now (states .exit); results = now (results .exit) })
+        (plainRun (now (list .entry)) marks (now (memory .entry)) (now (states .entry)) (now (holds .entry)) asked (now (results .entry))) ⌝ }
 {
     match check(list) {
         Checked::TooLong => refused(1),
