@@ -1,6 +1,6 @@
 // The plain reading for C and Rust, its answer in numbers; include/bilvakront.h says the same in C.
 ghost use mathlib.Core.Path.{_≡_};
-ghost use Rattle.reading.specs.Inside.{outcomeOf};
+ghost use Rattle.board.specs.Desk.{Outcome};
 ghost use Rattle.reading.specs.Read.{plainRun};
 
 #[no_mangle]
@@ -14,8 +14,8 @@ pub extern "C" fn bilvakront_plain_reading(
     results: &mut [u8],
     ticks: &mut u64,
 ) -> u8
-    ensures { λ r. ⌜ outcomeOf (record { number = r; ticks = now (ticks .exit) }) (now (memory .exit)) (now (states .exit)) (now (results .exit))
-        ≡ plainRun (now (list .entry)) marks (now (memory .entry)) (now (states .entry)) (now (holds .entry)) asked (now (results .entry)) ⌝ }
+    ensures { λ r. ⌜ _≡_ {A = Outcome} (record { answer = record { number = r; ticks = now (ticks .exit) }; memory = now (memory .exit); states = now (states .exit); results = now (results .exit) })
+        (plainRun (now (list .entry)) marks (now (memory .entry)) (now (states .entry)) (now (holds .entry)) asked (now (results .entry))) ⌝ }
 {
     let answer = reading::read(list, marks, memory, states, holds, asked, results);
     *ticks = answer.ticks as u64;
