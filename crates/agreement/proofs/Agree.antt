@@ -8,10 +8,10 @@ use Rattle.lines.specs.Levels.{hi, _∥_, released}
 use Rattle.lines.specs.Events.{opened}
 use Rattle.orders.specs.Results.{Batch}
 use Rattle.orders.specs.Marks.{Log}
-use Rattle.controller.specs.Ticks.{begun}
+use Rattle.symbols.specs.Ticks.{begun}
 use Rattle.controller.specs.Plan.{State, opens, orders}
-use Rattle.controller.specs.declared.Fault.the-variants.{Clear}
-use Rattle.controller.specs.declared.Phase.the-variants.{Over}
+use Rattle.symbols.specs.declared.Fault.the-variants.{Clear}
+use Rattle.symbols.specs.declared.Phase.the-variants.{Over}
 use Rattle.eeprom.specs.Stages.{Body, sdaOf}
 use Rattle.eeprom.specs.declared.Stage.the-variants.{Deaf}
 use Rattle.bus.specs.Wires.{Bus, allUp, linesOn, after}

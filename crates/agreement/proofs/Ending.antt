@@ -7,7 +7,7 @@ use native.Mathlib.Nat.{zero-add}
 use borrow.Author.Tests.{eq-eqb}
 use lib.ListN.{length}
 use Rattle.orders.specs.Results.{areaOf, startArea}
-use Rattle.controller.specs.Symbols.{isOver}
+use Rattle.symbols.specs.Symbols.{isOver}
 use Rattle.controller.specs.Plan.{State, orders}
 use Rattle.controller.specs.Bound.{mostTicks}
 use Rattle.board.specs.Marks.{bodies}

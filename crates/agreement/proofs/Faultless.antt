@@ -6,9 +6,9 @@ use mathlib.Core.List.{List}
 use native.Mathlib.Omega.{arith}
 use borrow.Author.Tests.{ltb-true, ltb-false}
 use lib.Dec.{ltb}
-use Rattle.controller.specs.Ticks.{Plan, first, clocked}
-use Rattle.controller.specs.declared.Symbol.{Symbol}
-use Rattle.controller.specs.declared.Symbol.the-variants.{Stop}
+use Rattle.symbols.specs.Ticks.{Plan, first, clocked}
+use Rattle.symbols.specs.declared.Symbol.{Symbol}
+use Rattle.symbols.specs.declared.Symbol.the-variants.{Stop}
 use Rattle.bus.specs.Holding.{firstHold}
 use Rattle.bus.specs.Wires.{Bus, after}
 use Rattle.reading.specs.Clock.{Clock, symbol, pass}

@@ -8,7 +8,7 @@ use lib.ListN.{length, getD}
 use Rattle.lines.specs.Levels.{mostHeld}
 use Rattle.orders.specs.Form.{Transaction}
 use Rattle.orders.specs.Results.{Batch, areaOf, batches}
-use Rattle.controller.specs.Ticks.{begun}
+use Rattle.symbols.specs.Ticks.{begun}
 use Rattle.controller.specs.Plan.{State, opens, orders}
 use Rattle.eeprom.specs.Stages.{Body}
 use Rattle.board.specs.Marks.{bodies}

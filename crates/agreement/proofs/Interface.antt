@@ -6,11 +6,11 @@ use mathlib.Core.Bool.{Bool, true, false, _&&_, and-true}
 use mathlib.Core.List.{List, map}
 use Rattle.lines.specs.Levels.{hi, lo}
 use Rattle.lines.specs.declared.Event.the-variants.{Started, Bit}
-use Rattle.controller.specs.Faults.{isStop}
-use Rattle.controller.specs.Ticks.{Plan, first, clocked}
-use Rattle.controller.specs.declared.Begin.the-variants.{First, Repeated}
-use Rattle.controller.specs.declared.Symbol.{Symbol}
-use Rattle.controller.specs.declared.Symbol.the-variants.{Start, Stop, Sent, Received}
+use Rattle.symbols.specs.Faults.{isStop}
+use Rattle.symbols.specs.Ticks.{Plan, first, clocked}
+use Rattle.symbols.specs.declared.Begin.the-variants.{First, Repeated}
+use Rattle.symbols.specs.declared.Symbol.{Symbol}
+use Rattle.symbols.specs.declared.Symbol.the-variants.{Start, Stop, Sent, Received}
 use Rattle.bus.specs.Holding.{firstHold}
 use Rattle.bus.specs.Wires.{Bus, after}
 use Rattle.reading.specs.Clock.{Clock, symbol, pass}

@@ -7,11 +7,11 @@ use native.Mathlib.Omega.{arith}
 use borrow.Author.Tests.{eq-eqb, ne-eqb, ltb-true, ltb-false}
 use lib.Dec.{eqb, ltb}
 use Rattle.lines.specs.Levels.{hi, lo, _∥_, released, mostHeld}
-use Rattle.controller.specs.Symbols.{isOver}
-use Rattle.controller.specs.Faults.{faultOf}
-use Rattle.controller.specs.Ticks.{Plan}
-use Rattle.controller.specs.declared.Fault.the-variants.{Clear}
-use Rattle.controller.specs.declared.Phase.the-variants.{Zero, One, Two, Three}
+use Rattle.symbols.specs.Symbols.{isOver}
+use Rattle.symbols.specs.Faults.{faultOf}
+use Rattle.symbols.specs.Ticks.{Plan}
+use Rattle.symbols.specs.declared.Fault.the-variants.{Clear}
+use Rattle.symbols.specs.declared.Phase.the-variants.{Zero, One, Two, Three}
 use Rattle.bus.specs.Holding.{firstHold}
 use Rattle.bus.specs.Wires.{Bus, allUp, joined, linesOn}
 use Rattle.agreement.proofs.Table.{mid, late, lines-zero, lines-one, lines-two, lines-three, clear-zero, clear-one, clear-held, clear-two, clear-three}

@@ -7,8 +7,8 @@ use mathlib.Core.List.{List, [], _∷_}
 use native.Mathlib.Omega.{arith}
 use lib.ListN.{length, getD}
 use Rattle.lines.specs.Levels.{byteOf}
-use Rattle.controller.specs.Symbols.{isOver}
-use Rattle.controller.specs.Ticks.{Plan}
+use Rattle.symbols.specs.Symbols.{isOver}
+use Rattle.symbols.specs.Ticks.{Plan}
 use Rattle.bus.specs.Wires.{Bus, linesOn, tick, after, oneMore, run}
 
 module _ (Q : Plan) (asked : ℕ) where

@@ -15,11 +15,11 @@ use Rattle.lines.specs.declared.Noted.{Noted}
 use Rattle.lines.specs.declared.Noted.the-variants.{Nothing, Level}
 use Rattle.lines.specs.declared.Event.{Event}
 use Rattle.lines.specs.declared.Event.the-variants.{Quiet, Started, Stopped, Bit}
-use Rattle.controller.specs.Faults.{isStop}
-use Rattle.controller.specs.Ticks.{Plan, Ask, first, clocked, enter}
-use Rattle.controller.specs.declared.Begin.the-variants.{First, Repeated}
-use Rattle.controller.specs.declared.Symbol.{Symbol}
-use Rattle.controller.specs.declared.Symbol.the-variants.{Start, Stop, Sent, Received}
+use Rattle.symbols.specs.Faults.{isStop}
+use Rattle.symbols.specs.Ticks.{Plan, Ask, first, clocked, enter}
+use Rattle.symbols.specs.declared.Begin.the-variants.{First, Repeated}
+use Rattle.symbols.specs.declared.Symbol.{Symbol}
+use Rattle.symbols.specs.declared.Symbol.the-variants.{Start, Stop, Sent, Received}
 use Rattle.eeprom.specs.Stages.{Body, bodyTick}
 use Rattle.bus.specs.Holding.{firstHold, laterHolds}
 use Rattle.bus.specs.Wires.{Bus, after}

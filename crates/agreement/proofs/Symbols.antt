@@ -12,11 +12,11 @@ use Rattle.lines.specs.Events.{delivered}
 use Rattle.lines.specs.declared.Noted.{Noted}
 use Rattle.lines.specs.declared.Noted.the-variants.{Nothing, Level}
 use Rattle.lines.specs.declared.Event.the-variants.{Started}
-use Rattle.controller.specs.Ticks.{Plan, first, enter}
-use Rattle.controller.specs.declared.Begin.the-variants.{First}
-use Rattle.controller.specs.declared.Symbol.{Symbol}
-use Rattle.controller.specs.declared.Symbol.the-variants.{Start}
-use Rattle.controller.specs.declared.Phase.the-variants.{Zero, One, Two, Three}
+use Rattle.symbols.specs.Ticks.{Plan, first, enter}
+use Rattle.symbols.specs.declared.Begin.the-variants.{First}
+use Rattle.symbols.specs.declared.Symbol.{Symbol}
+use Rattle.symbols.specs.declared.Symbol.the-variants.{Start}
+use Rattle.symbols.specs.declared.Phase.the-variants.{Zero, One, Two, Three}
 use Rattle.eeprom.specs.Stages.{bodyTick}
 use Rattle.bus.specs.Holding.{firstHold, laterHolds}
 use Rattle.bus.specs.Wires.{Bus, tick, after}

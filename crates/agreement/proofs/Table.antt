@@ -11,13 +11,13 @@ use Rattle.lines.specs.declared.Noted.{Noted}
 use Rattle.lines.specs.declared.Noted.the-variants.{Nothing, Level}
 use Rattle.lines.specs.declared.Event.{Event}
 use Rattle.lines.specs.declared.Event.the-variants.{Quiet, Started, Stopped}
-use Rattle.controller.specs.Symbols.{Row, four, row, drives}
-use Rattle.controller.specs.Faults.{faultOf}
-use Rattle.controller.specs.declared.Begin.the-variants.{First, Repeated}
-use Rattle.controller.specs.declared.Symbol.{Symbol}
-use Rattle.controller.specs.declared.Symbol.the-variants.{Start, Stop, Sent, Received}
-use Rattle.controller.specs.declared.Fault.the-variants.{Clear}
-use Rattle.controller.specs.declared.Phase.the-variants.{Zero, One, Two, Three}
+use Rattle.symbols.specs.Symbols.{Row, four, row, drives}
+use Rattle.symbols.specs.Faults.{faultOf}
+use Rattle.symbols.specs.declared.Begin.the-variants.{First, Repeated}
+use Rattle.symbols.specs.declared.Symbol.{Symbol}
+use Rattle.symbols.specs.declared.Symbol.the-variants.{Start, Stop, Sent, Received}
+use Rattle.symbols.specs.declared.Fault.the-variants.{Clear}
+use Rattle.symbols.specs.declared.Phase.the-variants.{Zero, One, Two, Three}
 use Rattle.bus.specs.Wires.{joined}
 
 -- SDA driven in phases 1 and 2

@@ -15,16 +15,16 @@ use Rattle.lines.specs.declared.Noted.the-variants.{Nothing, Level}
 use Rattle.lines.specs.declared.Event.{Event}
 use Rattle.lines.specs.declared.Event.the-variants.{Started}
 use Rattle.lines.specs.declared.Eye.{Eye}
-use Rattle.controller.specs.Symbols.{Row, drives}
-use Rattle.controller.specs.Faults.{faultOf}
-use Rattle.controller.specs.Ticks.{Plan, Control, first, enter, move, settle, controlTick}
-use Rattle.controller.specs.declared.Begin.the-variants.{First}
-use Rattle.controller.specs.declared.Symbol.{Symbol}
-use Rattle.controller.specs.declared.Symbol.the-variants.{Start}
-use Rattle.controller.specs.declared.Fault.{Fault}
-use Rattle.controller.specs.declared.Fault.the-variants.{Clear}
-use Rattle.controller.specs.declared.Phase.{Phase}
-use Rattle.controller.specs.declared.Phase.the-variants.{Waiting, Zero, One, Two, Three}
+use Rattle.symbols.specs.Symbols.{Row, drives}
+use Rattle.symbols.specs.Faults.{faultOf}
+use Rattle.symbols.specs.Ticks.{Plan, Control, first, enter, move, settle, controlTick}
+use Rattle.symbols.specs.declared.Begin.the-variants.{First}
+use Rattle.symbols.specs.declared.Symbol.{Symbol}
+use Rattle.symbols.specs.declared.Symbol.the-variants.{Start}
+use Rattle.symbols.specs.declared.Fault.{Fault}
+use Rattle.symbols.specs.declared.Fault.the-variants.{Clear}
+use Rattle.symbols.specs.declared.Phase.{Phase}
+use Rattle.symbols.specs.declared.Phase.the-variants.{Waiting, Zero, One, Two, Three}
 use Rattle.eeprom.specs.Stages.{Body, bodyTick}
 use Rattle.bus.specs.Holding.{holdTick, firstHold, laterHolds}
 use Rattle.bus.specs.Wires.{Bus, allUp, joined, seeing, tick}

@@ -6,12 +6,12 @@ use mathlib.Core.List.{List, [], _∷_}
 use lib.ListN.{getD}
 use Rattle.lines.specs.Levels.{released}
 use Rattle.orders.specs.Results.{Batch}
-use Rattle.controller.specs.Symbols.{isOver}
-use Rattle.controller.specs.Faults.{faultOf}
+use Rattle.symbols.specs.Symbols.{isOver}
+use Rattle.symbols.specs.Faults.{faultOf}
 use Rattle.controller.specs.Plan.{orders}
 use Rattle.controller.specs.Bound.{mostTicks}
-use Rattle.controller.specs.declared.Fault.the-variants.{Clear}
-use Rattle.controller.specs.declared.Phase.the-variants.{Over}
+use Rattle.symbols.specs.declared.Fault.the-variants.{Clear}
+use Rattle.symbols.specs.declared.Phase.the-variants.{Over}
 use Rattle.bus.specs.Wires.{linesOn, after, run}
 use Rattle.agreement.specs.Inputs.{Input, listed, batched, begin, whole, answer}
 

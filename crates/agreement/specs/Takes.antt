@@ -7,7 +7,7 @@ use lib.ListN.{drop}
 use Rattle.orders.specs.Form.{Transaction}
 use Rattle.orders.specs.Results.{Batch, areaOf, batches}
 use Rattle.orders.specs.Marks.{Log}
-use Rattle.controller.specs.Ticks.{begun}
+use Rattle.symbols.specs.Ticks.{begun}
 use Rattle.controller.specs.Plan.{State, opens, orders}
 use Rattle.bus.specs.Wires.{Bus, after}
 use Rattle.agreement.specs.Course.{batchAt, sizeOf}

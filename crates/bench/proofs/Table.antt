@@ -11,8 +11,8 @@ use Rattle.orders.specs.Kinds.{mostBytes, mostMessages, mostLength, isWrite, is
 use Rattle.orders.specs.Form.{messageAt, parse, parsed, transactionsOf}
 use Rattle.orders.specs.Results.{slotsOfAll, areaOf, blankArea, startArea, slotted, batches, checkOf}
 use Rattle.orders.specs.Marks.{readMark, note}
-use Rattle.controller.specs.Faults.{faultOf}
-use Rattle.controller.specs.Ticks.{controlTick}
+use Rattle.symbols.specs.Faults.{faultOf}
+use Rattle.symbols.specs.Ticks.{controlTick}
 use Rattle.controller.specs.Bound.{clockedOf, mostTicks}
 use Rattle.eeprom.specs.Pages.{geometryOf, pageStart, pageStep, readStep, pointerOf}
 use Rattle.eeprom.specs.Keeping.{blankLatch, takes, byteNow, steps, starts, stored, stops}

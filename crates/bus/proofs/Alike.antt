@@ -9,9 +9,9 @@ use Rattle.lines.specs.Levels.{byteOf}
 use Rattle.lines.specs.Events.{eventOf, eyeAfter}
 use Rattle.lines.specs.declared.Lines.{Lines}
 use Rattle.lines.specs.declared.Eye.{Eye}
-use Rattle.controller.specs.Symbols.{drives, isOver}
-use Rattle.controller.specs.Ticks.{Plan, Control, controlTick}
-use Rattle.controller.specs.declared.Phase.{Phase}
+use Rattle.symbols.specs.Symbols.{drives, isOver}
+use Rattle.symbols.specs.Ticks.{Plan, Control, controlTick}
+use Rattle.symbols.specs.declared.Phase.{Phase}
 use Rattle.eeprom.specs.Stages.{Body, bodyTick}
 use Rattle.bus.specs.Holding.{Holding, holdTick}
 use Rattle.bus.specs.Wires.{Bus, joined, allUp, linesOn, tick, Ran, oneMore, run}

@@ -16,12 +16,12 @@ use Rattle.orders.specs.declared.Checked.the-variants.{Accepted}
 use Rattle.orders.proofs.KindLaws.{short-length, few-asked, most-bytes}
 use Rattle.orders.proofs.Stands.{holds}
 use Rattle.orders.proofs.WholeMessage.{message-inv}
-use Rattle.controller.specs.Symbols.{isOver}
-use Rattle.controller.specs.Ticks.{controlTick}
+use Rattle.symbols.specs.Symbols.{isOver}
+use Rattle.symbols.specs.Ticks.{controlTick}
 use Rattle.controller.specs.Plan.{State, orders}
 use Rattle.controller.specs.Bound.{bytesOf, clockedOf, mostTicks}
 use Rattle.controller.proofs.Bound.{leftOf, falls}
-use Rattle.controller.proofs.Moves.{stays}
+use Rattle.symbols.proofs.Moves.{stays}
 use Rattle.bus.specs.Wires.{Bus, linesOn, tick, after}
 use Rattle.bus.specs.Inside.{limit}
 

@@ -24,8 +24,8 @@ use Rattle.orders.specs.declared.Checked.{Checked}
 use Rattle.orders.specs.declared.Checked.the-variants.{Accepted, TooLong, Broken}
 use Rattle.orders.proofs.Stands.{holds}
 use Rattle.orders.proofs.Starts.{starts}
-use Rattle.controller.specs.Symbols.{isOver}
-use Rattle.controller.specs.Ticks.{Control, begun, controlTick}
+use Rattle.symbols.specs.Symbols.{isOver}
+use Rattle.symbols.specs.Ticks.{Control, begun, controlTick}
 use Rattle.controller.specs.Plan.{State, orders, opens}
 use Rattle.controller.specs.Bound.{mostTicks}
 use Rattle.controller.specs.Cursor.{Spot, places, opensAt, controlOf, firstOf}

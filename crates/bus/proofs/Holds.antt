@@ -10,9 +10,9 @@ use lib.Dec.{eqb}
 use lib.ListN.{length, getD, set, drop, drop-of-length-le}
 use lib.Seq.{drop-cons}
 use Rattle.lines.specs.declared.Lines.{Lines}
-use Rattle.controller.specs.Symbols.{drives}
-use Rattle.controller.specs.declared.Phase.{Phase}
-use Rattle.controller.specs.declared.Phase.the-variants.{Waiting}
+use Rattle.symbols.specs.Symbols.{drives}
+use Rattle.symbols.specs.declared.Phase.{Phase}
+use Rattle.symbols.specs.declared.Phase.the-variants.{Waiting}
 use Rattle.bus.specs.Holding.{Holding, holdTick}
 use Rattle.bus.specs.Inside.{holdingOf, busLines, phaseRest, restOf, filled}
 use Rattle.bus.specs.declared.Holder.{Holder}

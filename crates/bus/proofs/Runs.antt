@@ -6,8 +6,8 @@ use native.Mathlib.Omega.{arith}
 use mathlib.Core.Path.{_≡_, refl, ap}
 use mathlib.Core.Bool.{Bool, true, false, cond}
 use mathlib.Core.List.{List, []}
-use Rattle.controller.specs.Symbols.{isOver}
-use Rattle.controller.specs.Ticks.{Plan}
+use Rattle.symbols.specs.Symbols.{isOver}
+use Rattle.symbols.specs.Ticks.{Plan}
 use Rattle.bus.specs.Wires.{Bus, linesOn, tick, after, Ran, oneMore, run}
 
 module _ (Q : Plan) (asked : ℕ) where

@@ -12,8 +12,8 @@ use Rattle.lines.specs.Events.{eventOf}
 use Rattle.lines.specs.Records.{over}
 use Rattle.lines.specs.declared.Lines.{Lines}
 use Rattle.lines.specs.declared.Eye.{Eye}
-use Rattle.controller.specs.Symbols.{drives, isOver}
-use Rattle.controller.specs.Ticks.{Control}
+use Rattle.symbols.specs.Symbols.{drives, isOver}
+use Rattle.symbols.specs.Ticks.{Control}
 use Rattle.controller.specs.Cursor.{Spot, places}
 use Rattle.eeprom.specs.Stages.{Body, bodyTick, sdaOf}
 use Rattle.eeprom.proofs.Records.{overFrom, one-byte, all-bytes, from-front}

@@ -8,13 +8,13 @@ use lib.ListN.{length, set, drop}
 use Rattle.lines.specs.Events.{eyeAfter}
 use Rattle.lines.specs.Records.{over}
 use Rattle.lines.specs.declared.Lines.{Lines}
-use Rattle.controller.specs.Symbols.{drives}
-use Rattle.controller.specs.Ticks.{Control, controlTick}
+use Rattle.symbols.specs.Symbols.{drives}
+use Rattle.symbols.specs.Ticks.{Control, controlTick}
 use Rattle.controller.specs.Cursor.{Spot, places, controlOf}
-use Rattle.controller.specs.declared.Begin.the-variants.{First}
-use Rattle.controller.specs.declared.Symbol.the-variants.{Start}
-use Rattle.controller.specs.declared.Phase.{Phase}
-use Rattle.controller.specs.declared.Phase.the-variants.{Over, Waiting, Zero, One, Two, Three}
+use Rattle.symbols.specs.declared.Begin.the-variants.{First}
+use Rattle.symbols.specs.declared.Symbol.the-variants.{Start}
+use Rattle.symbols.specs.declared.Phase.{Phase}
+use Rattle.symbols.specs.declared.Phase.the-variants.{Over, Waiting, Zero, One, Two, Three}
 use Rattle.orders.specs.Results.{checkOf}
 use Rattle.orders.specs.declared.Checked.the-variants.{Accepted}
 use Rattle.board.specs.Desk.{boardNumber}

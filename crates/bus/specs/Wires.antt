@@ -8,8 +8,8 @@ use Rattle.lines.specs.Levels.{_∥_, byteOf}
 use Rattle.lines.specs.Events.{eventOf, eyeAfter}
 use Rattle.lines.specs.declared.Lines.{Lines}
 use Rattle.lines.specs.declared.Eye.{Eye}
-use Rattle.controller.specs.Symbols.{drives, isOver}
-use Rattle.controller.specs.Ticks.{Plan, Control, controlTick}
+use Rattle.symbols.specs.Symbols.{drives, isOver}
+use Rattle.symbols.specs.Ticks.{Plan, Control, controlTick}
 use Rattle.eeprom.specs.Stages.{Body, bodyTick, sdaOf}
 use Rattle.bus.specs.Holding.{Holding, holdTick}
 

@@ -22,18 +22,18 @@ use Rattle.orders.specs.declared.Checked.the-variants.{Accepted}
 use Rattle.orders.proofs.KindLaws.{some-asked}
 use Rattle.orders.proofs.WholeMessage.{message-inv}
 use Rattle.orders.proofs.Stands.{holds}
-use Rattle.controller.specs.Symbols.{drives, isOver}
-use Rattle.controller.specs.Faults.{isFirst, isTaken, isStuck, faultOf, isClear}
-use Rattle.controller.specs.Ticks.{first, enter, Control, move, controlTick}
+use Rattle.symbols.specs.Symbols.{drives, isOver}
+use Rattle.symbols.specs.Faults.{isFirst, isTaken, isStuck, faultOf, isClear}
+use Rattle.symbols.specs.Ticks.{first, enter, Control, move, controlTick}
 use Rattle.controller.specs.Plan.{Job, opening, reopening, closing, finished, addressing, addressed, writing, wrote, reading, answering, Context, State, asks, does, goOn, refused, writes, reads, carries, opens, step, orders}
 use Rattle.controller.specs.Bound.{clockedOf, mostTicks}
 use Rattle.controller.specs.Alone.{party, atFirst}
-use Rattle.controller.specs.declared.Symbol.{Symbol}
-use Rattle.controller.specs.declared.Fault.{Fault}
-use Rattle.controller.specs.declared.Fault.the-variants.{Clear}
-use Rattle.controller.specs.declared.Phase.{Phase}
-use Rattle.controller.specs.declared.Phase.the-variants.{Over, Waiting, Zero, One, Two, Three}
-use Rattle.controller.proofs.Moves.{clear-free, clear-running, clear-is}
+use Rattle.symbols.specs.declared.Symbol.{Symbol}
+use Rattle.symbols.specs.declared.Fault.{Fault}
+use Rattle.symbols.specs.declared.Fault.the-variants.{Clear}
+use Rattle.symbols.specs.declared.Phase.{Phase}
+use Rattle.symbols.specs.declared.Phase.the-variants.{Over, Waiting, Zero, One, Two, Three}
+use Rattle.symbols.proofs.Moves.{clear-free, clear-running, clear-is}
 use Rattle.controller.proofs.Record.{walk-over}
 
 -- a clocked symbol takes at most this; nine of them are a byte

@@ -1,7 +1,5 @@
--- Laws by kind. The crates above cite Moves (stays), Matches, Simulation and Bound.
-pub mod Table
-pub mod Ladder
-pub mod Moves
+-- Laws by kind. The crates above cite Matches, Simulation and Bound.
+pub mod Ticking
 pub mod Walk
 pub mod Matches
 pub mod Simulation

@@ -6,13 +6,13 @@ use mathlib.Core.List.{List, [], _∷_, _++_}
 use Rattle.lines.specs.Levels.{hi, byteOf, linesOf}
 use Rattle.lines.specs.Records.{walk, driven, drivesOn}
 use Rattle.lines.specs.declared.Lines.{Lines}
-use Rattle.controller.specs.Symbols.{row, drives, isOver}
-use Rattle.controller.specs.Faults.{faultOf, isClear}
-use Rattle.controller.specs.Ticks.{Plan, enter, Control, begun, move, controlTick}
+use Rattle.symbols.specs.Symbols.{row, drives, isOver}
+use Rattle.symbols.specs.Faults.{faultOf, isClear}
+use Rattle.symbols.specs.Ticks.{Plan, enter, Control, begun, move, controlTick}
 use Rattle.controller.specs.Alone.{party}
-use Rattle.controller.specs.declared.Fault.{Fault}
-use Rattle.controller.specs.declared.Phase.{Phase}
-use Rattle.controller.specs.declared.Phase.the-variants.{Over, Waiting, Zero, One, Two, Three}
+use Rattle.symbols.specs.declared.Fault.{Fault}
+use Rattle.symbols.specs.declared.Phase.{Phase}
+use Rattle.symbols.specs.declared.Phase.the-variants.{Over, Waiting, Zero, One, Two, Three}
 
 module _ (Q R : Plan) (Same : Q .State → R .State → Type 0) where
   pub record Matches (c : Control (Q .State)) (d : Control (R .State)) : Type 0 where

@@ -11,17 +11,17 @@ use lib.Seq.{drop-cons, take-suc-set, drop-set-lt}
 use Rattle.lines.specs.Levels.{byteOf, linesOf}
 use Rattle.lines.specs.Records.{walk, driven, drivesOn, over}
 use Rattle.lines.specs.declared.Lines.{Lines}
-use Rattle.controller.specs.Symbols.{drives, isOver}
-use Rattle.controller.specs.Ticks.{Plan, Control, controlTick}
+use Rattle.symbols.specs.Symbols.{drives, isOver}
+use Rattle.symbols.specs.Ticks.{Plan, Control, controlTick}
 use Rattle.controller.specs.Cursor.{Spot, places, controlOf, firstOf}
 use Rattle.controller.specs.Alone.{party, endOf, Alone}
 use Rattle.controller.specs.Running.{ranOn}
-use Rattle.controller.proofs.Moves.{stays}
+use Rattle.symbols.proofs.Moves.{stays}
 use Rattle.controller.specs.declared.Controller.{Controller}
 use Rattle.controller.specs.declared.End.{End}
-use Rattle.controller.specs.declared.Fault.{Fault}
-use Rattle.controller.specs.declared.Phase.{Phase}
-use Rattle.controller.specs.declared.Phase.the-variants.{Over}
+use Rattle.symbols.specs.declared.Fault.{Fault}
+use Rattle.symbols.specs.declared.Phase.{Phase}
+use Rattle.symbols.specs.declared.Phase.the-variants.{Over}
 
 -- a row that is written over what is lent begins with its first byte
 over-first : (x y : ℕ) (row lent : List ℕ) → over (x ∷ row) (y ∷ lent) ≡ x ∷ over row lent

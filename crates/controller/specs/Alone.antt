@@ -7,12 +7,12 @@ use lib.ListN.{length}
 use Rattle.lines.specs.Records.{Party, walk, drivesOn, over, no, _then_, badSample}
 use Rattle.orders.specs.Form.{transactionsOf}
 use Rattle.orders.specs.Results.{areaOf, startArea, batches, checkOf, listNumber}
-use Rattle.controller.specs.Symbols.{drives, isOver}
-use Rattle.controller.specs.Ticks.{Plan, Control, begun, controlTick}
+use Rattle.symbols.specs.Symbols.{drives, isOver}
+use Rattle.symbols.specs.Ticks.{Plan, Control, begun, controlTick}
 use Rattle.controller.specs.Plan.{State, orders, opens}
-use Rattle.controller.specs.declared.Fault.the-variants.{Clear, DataLost, ClockStuck, Undefined, NotFree, LineBroken}
-use Rattle.controller.specs.declared.Phase.{Phase}
-use Rattle.controller.specs.declared.Phase.the-variants.{Over, Waiting, Zero, One, Two, Three}
+use Rattle.symbols.specs.declared.Fault.the-variants.{Clear, DataLost, ClockStuck, Undefined, NotFree, LineBroken}
+use Rattle.symbols.specs.declared.Phase.{Phase}
+use Rattle.symbols.specs.declared.Phase.the-variants.{Over, Waiting, Zero, One, Two, Three}
 use Rattle.controller.specs.declared.End.{End}
 use Rattle.controller.specs.declared.End.the-variants.{Refused, ListEnd, Faulted, RecordEnd}
 use Rattle.controller.specs.declared.Told.{Told}

@@ -12,10 +12,10 @@ use Rattle.orders.specs.Form.{waitAt}
 use Rattle.orders.specs.Places.{sizeAt, roomAt}
 use Rattle.orders.specs.Marks.{heard, written, closed, broke, readMark, Log, note}
 use Rattle.orders.specs.declared.Quota.{Quota}
-use Rattle.controller.specs.Faults.{outcomeOf}
-use Rattle.controller.specs.Ticks.{Ask, first, clocked, end, Plan, enter, Control}
-use Rattle.controller.specs.declared.Begin.the-variants.{Repeated}
-use Rattle.controller.specs.declared.Symbol.the-variants.{Start, Stop, Sent, Received}
+use Rattle.symbols.specs.Faults.{outcomeOf}
+use Rattle.symbols.specs.Ticks.{Ask, first, clocked, end, Plan, enter, Control}
+use Rattle.symbols.specs.declared.Begin.the-variants.{Repeated}
+use Rattle.symbols.specs.declared.Symbol.the-variants.{Start, Stop, Sent, Received}
 use Rattle.controller.specs.declared.Act.{Act}
 use Rattle.controller.specs.declared.Act.the-variants.{Opens, Reopens, Closes, Finishes, Addresses, Hears, Puts, Awaits, Gets, Answers}
 use Rattle.controller.specs.declared.Cursor.{Cursor}

@@ -1,7 +1,3 @@
-pub mod Symbols
-pub mod Faults
-pub mod Ticks
-pub mod Moves
 pub mod Plan
 pub mod Cursor
 pub mod Bound

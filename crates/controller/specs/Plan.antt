@@ -10,10 +10,10 @@ use Rattle.orders.specs.Asking.{Order, put, get, orderOf, addressByte}
 use Rattle.orders.specs.Results.{Slotted, Batch}
 use Rattle.orders.specs.Marks.{Mark, heard, written, closed, broke, readMark, Log, note}
 use Rattle.orders.specs.declared.Quota.{Quota}
-use Rattle.controller.specs.Faults.{outcomeOf}
-use Rattle.controller.specs.Ticks.{Ask, first, clocked, end, Plan}
-use Rattle.controller.specs.declared.Begin.the-variants.{Repeated}
-use Rattle.controller.specs.declared.Symbol.the-variants.{Start, Stop, Sent, Received}
+use Rattle.symbols.specs.Faults.{outcomeOf}
+use Rattle.symbols.specs.Ticks.{Ask, first, clocked, end, Plan}
+use Rattle.symbols.specs.declared.Begin.the-variants.{Repeated}
+use Rattle.symbols.specs.declared.Symbol.the-variants.{Start, Stop, Sent, Received}
 
 -- the symbol under way; bits are counted down: `left` come after this one. `count`: data bytes of the message before this one
 pub data Job : Type 0 where

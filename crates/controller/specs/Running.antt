@@ -3,7 +3,7 @@ use Prim.Native.Nat.{ℕ}
 use mathlib.Core.List.{List}
 use lib.ListN.{length}
 use Rattle.lines.specs.Records.{walk, drivesOn, over}
-use Rattle.controller.specs.Ticks.{Control}
+use Rattle.symbols.specs.Ticks.{Control}
 use Rattle.controller.specs.Cursor.{Spot, places}
 use Rattle.controller.specs.Alone.{party, endOf, Alone}
 use Rattle.controller.specs.declared.End.the-variants.{Refused}

@@ -1,9 +1,9 @@
-// The controller: the symbols that it drives, the faults that it sees, and its way through an order list.
+// The controller: its way through an order list, and the tick in which it drives a symbol, sees the lines and notes a result.
 ghost use mathlib.Core.Path.{_≡_};
 ghost use Prim.Native.Nat.{_≤_};
 ghost use lib.ListN.{length};
-ghost use Rattle.controller.specs.Symbols.{drives, isOver};
-ghost use Rattle.controller.specs.Ticks.{controlTick};
+ghost use Rattle.symbols.specs.Symbols.{drives, isOver};
+ghost use Rattle.symbols.specs.Ticks.{controlTick};
 ghost use Rattle.controller.specs.Cursor.{places, controlOf, firstOf};
 ghost use Rattle.controller.specs.Alone.{endOf, alone};
 ghost use Rattle.controller.specs.Running.{ranOn, refusedAs};
@@ -12,47 +12,10 @@ use lines::all_within;
 use lines::put_at;
 use orders::Checked;
 use orders::Quota;
+use symbols::Fault;
+use symbols::Phase;
 
-mod faults;
 mod places;
-mod symbols;
-
-// A START is the first of its transaction, or a repeated one.
-pub enum Begin {
-    First,
-    Repeated,
-}
-
-pub enum Symbol {
-    Start(Begin),
-    Stop,
-    Sent(bool),
-    Received,
-}
-
-// What a line fault is called, or that there is none.
-pub enum Fault {
-    Clear,
-    DataLost,
-    ClockStuck,
-    Undefined,
-    NotFree,
-    LineBroken,
-}
-
-// A phase is one case with its symbol inside it, so that a received bit can't be met in the middle of a STOP.
-pub enum Phase {
-    // at the end, by a fault or without one
-    Over(Fault),
-    // the ticks of the wait that follow this one; four bytes, or it would share bytes with a symbol and slow every tick
-    Waiting(u32),
-    Zero(Symbol),
-    One(Symbol),
-    // the ticks already held
-    Two(Symbol, u8),
-    // the SDA seen in the last tick of phase 2
-    Three(Symbol, bool),
-}
 
 // What the symbol under way is for.
 pub enum Act {
@@ -177,26 +140,24 @@ impl Controller {
     }
 }
 
-impl Phase {
-    // How a run that stands here has ended: the record's end only if neither the list's end nor a fault holds.
-    fn end(self) -> End
-        ensures { λ r. ⌜ r ≡ endOf self ⌝ }
-    {
-        match self {
-            Phase::Over(fault) => match fault {
-                Fault::Clear => End::ListEnd,
-                Fault::DataLost => End::Faulted(Fault::DataLost),
-                Fault::ClockStuck => End::Faulted(Fault::ClockStuck),
-                Fault::Undefined => End::Faulted(Fault::Undefined),
-                Fault::NotFree => End::Faulted(Fault::NotFree),
-                Fault::LineBroken => End::Faulted(Fault::LineBroken),
-            },
-            Phase::Waiting(_) => End::RecordEnd,
-            Phase::Zero(_) => End::RecordEnd,
-            Phase::One(_) => End::RecordEnd,
-            Phase::Two(_, _) => End::RecordEnd,
-            Phase::Three(_, _) => End::RecordEnd,
-        }
+// How a run that stands here has ended: the record's end only if neither the list's end nor a fault holds.
+fn end_of(phase: Phase) -> End
+    ensures { λ r. ⌜ r ≡ endOf phase ⌝ }
+{
+    match phase {
+        Phase::Over(fault) => match fault {
+            Fault::Clear => End::ListEnd,
+            Fault::DataLost => End::Faulted(Fault::DataLost),
+            Fault::ClockStuck => End::Faulted(Fault::ClockStuck),
+            Fault::Undefined => End::Faulted(Fault::Undefined),
+            Fault::NotFree => End::Faulted(Fault::NotFree),
+            Fault::LineBroken => End::Faulted(Fault::LineBroken),
+        },
+        Phase::Waiting(_) => End::RecordEnd,
+        Phase::Zero(_) => End::RecordEnd,
+        Phase::One(_) => End::RecordEnd,
+        Phase::Two(_, _) => End::RecordEnd,
+        Phase::Three(_, _) => End::RecordEnd,
     }
 }
 
@@ -223,7 +184,7 @@ fn run(list: &[u8], samples: &[u8], drives: &mut [u8], results: &mut [u8]) -> To
             let phase = c.phase;
             return Told {
                 number: 0,
-                end: phase.end(),
+                end: end_of(phase),
                 ticks: t,
             };
         }
@@ -236,7 +197,7 @@ fn run(list: &[u8], samples: &[u8], drives: &mut [u8], results: &mut [u8]) -> To
     let phase = c.phase;
     Told {
         number: 0,
-        end: phase.end(),
+        end: end_of(phase),
         ticks: t,
     }
 }

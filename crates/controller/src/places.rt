@@ -1,13 +1,10 @@
 // The cursor: where the controller stands in the byte list and in the result area, and where the end of a symbol takes it.
 ghost use mathlib.Core.Path.{_≡_};
 ghost use Prim.Native.Nat.{_+_, _-_, _%_};
-ghost use Rattle.controller.specs.Ticks.{enter};
-ghost use Rattle.controller.specs.Cursor.{acts, carriesOn, counted, nowhere, addressAt, dataAt, passed, passedAll, goesOn, refusedBy, putsOn, getsOn, carriesOut, opensAt, stepOf, noteOf, askOf};
+ghost use Rattle.symbols.specs.Ticks.{enter};
+ghost use Rattle.controller.specs.Cursor.{acts, carriesOn, nowhere, addressAt, dataAt, passed, passedAll, goesOn, refusedBy, putsOn, getsOn, carriesOut, opensAt, stepOf, noteOf, askOf};
 use crate::Act;
-use crate::Begin;
 use crate::Cursor;
-use crate::Phase;
-use crate::Symbol;
 use lines::bit_at;
 use lines::byte_at;
 use lines::put_at;
@@ -18,6 +15,10 @@ use orders::is_write;
 use orders::quota_of;
 use orders::room_at;
 use orders::size_at;
+use symbols::Begin;
+use symbols::Fault;
+use symbols::Phase;
+use symbols::Symbol;
 
 // Places are kept modulo this; the places of an accepted list are far below it.
 const WRAP: usize = 4294967296;
@@ -265,7 +266,7 @@ impl Cursor {
             },
             Act::Reopens => Phase::Zero(Symbol::Start(Begin::Repeated)),
             Act::Closes => Phase::Zero(Symbol::Stop),
-            Act::Finishes => Phase::Over(crate::Fault::Clear),
+            Act::Finishes => Phase::Over(Fault::Clear),
             Act::Addresses(k) => Phase::Zero(Symbol::Sent(bit_at(k, self.address(list)))),
             Act::Hears => Phase::Zero(Symbol::Received),
             Act::Puts(k) => Phase::Zero(Symbol::Sent(bit_at(k, self.data(list)))),

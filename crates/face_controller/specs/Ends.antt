@@ -1,7 +1,7 @@
 -- How a run on a record ended, as a number. The paper numbers the faults; the other ends have numbers beside them. Assumes nothing.
 use Prim.Native.Nat.{ℕ}
 use mathlib.Core.List.{List}
-use Rattle.controller.specs.Faults.{outcomeOf}
+use Rattle.symbols.specs.Faults.{outcomeOf}
 use Rattle.controller.specs.Alone.{Alone}
 use Rattle.controller.specs.declared.End.{End}
 use Rattle.controller.specs.declared.End.the-variants.{Refused, ListEnd, Faulted, RecordEnd}

@@ -1,6 +1,6 @@
 -- `controller::Controller::first` meets its contract. Assumes nothing.
 use borrow.Author.Needs.{needs}
-use Rattle.controller.proofs.Moves.{first-is}
+use Rattle.controller.proofs.Ticking.{first-is}
 use Rattle.controller.proofs.Controller.first.Statement.{statement}
 use Rattle.controller.proofs.Controller.first.Tie as tie
 

@@ -1,6 +1,6 @@
 -- `controller::Controller::tick` meets its contract. Assumes nothing.
 use borrow.Author.Needs.{needs}
-use Rattle.controller.proofs.Moves.{ticks-last, needs-clear, ticks-inside, ticks-over}
+use Rattle.controller.proofs.Ticking.{ticks-last, needs-clear, ticks-inside, ticks-over}
 use Rattle.controller.proofs.Controller.tick.Statement.{statement}
 use Rattle.controller.proofs.Controller.tick.Tie as tie
 

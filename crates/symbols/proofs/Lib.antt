@@ -1,0 +1,4 @@
+-- Laws by kind. The crates above cite Moves.
+pub mod Table
+pub mod Ladder
+pub mod Moves

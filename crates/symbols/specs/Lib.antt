@@ -1,0 +1,4 @@
+pub mod Symbols
+pub mod Faults
+pub mod Ticks
+pub mod Moves
