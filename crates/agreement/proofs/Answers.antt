@@ -4,7 +4,7 @@ use Prim.Native.Nat.{ℕ}
 use mathlib.Core.Path.{_≡_, sym, _∙_}
 use mathlib.Core.List.{List}
 use Rattle.controller.specs.Alone.{Alone, alone}
-use Rattle.eeprom.specs.Alone.{ChipAlone, chipAlone}
+use Rattle.lone_chip.specs.Alone.{ChipAlone, chipAlone}
 use Rattle.board.specs.Desk.{Outcome}
 use Rattle.bus.specs.Run.{Traced, wireRun}
 use Rattle.reading.specs.Read.{plainRun}

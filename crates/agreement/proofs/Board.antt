@@ -8,7 +8,7 @@ use native.Mathlib.Omega.{arith}
 use borrow.Author.Tests.{ne-eqb}
 use lib.ListN.{drop}
 use Rattle.lines.specs.Levels.{bitAt}
-use Rattle.eeprom.specs.Pages.{geometryOf}
+use Rattle.store.specs.Pages.{geometryOf}
 use Rattle.eeprom.specs.Stages.{Body}
 use Rattle.eeprom.specs.declared.Stage.the-variants.{Deaf}
 use Rattle.board.specs.Marks.{modelAt, memoryAt, bodyAt, bodiesFrom, bodies}

@@ -13,7 +13,7 @@ use Rattle.orders.specs.Asking.{addressByte}
 use Rattle.orders.specs.Marks.{written, readMark}
 use Rattle.orders.specs.declared.Quota.{Quota}
 use Rattle.controller.specs.Plan.{Context, State, addressing, addressed, writing, wrote, reading, answering, marked, writes, reads, step, orders, does as doing}
-use Rattle.eeprom.specs.Keeping.{takes, steps}
+use Rattle.store.specs.Keeping.{takes, steps}
 use Rattle.eeprom.specs.Stages.{named, hears, sdaOf}
 use Rattle.eeprom.specs.declared.Stage.{Stage}
 use Rattle.eeprom.specs.declared.Stage.the-variants.{Deaf, Naming, Named, Taking, Taken, Asking}

@@ -12,9 +12,9 @@ use Rattle.orders.specs.Kinds.{isCritical, remain}
 use Rattle.orders.specs.Asking.{Order, put, get, orderOf}
 use Rattle.orders.specs.Results.{Slotted}
 use Rattle.orders.specs.declared.Quota.{Quota}
-use Rattle.eeprom.specs.Pages.{pageStart}
-use Rattle.eeprom.specs.Keeping.{Kept, geo, takesAt, takes, byteNow, steps, starts, stored, stops}
-use Rattle.eeprom.specs.declared.Store.{Store}
+use Rattle.store.specs.Pages.{pageStart}
+use Rattle.store.specs.Keeping.{Kept, geo, takesAt, takes, byteNow, steps, starts, stored, stops}
+use Rattle.store.specs.declared.Store.{Store}
 use Rattle.reading.specs.Clock.{symbol}
 use Rattle.reading.specs.Plain.{Cell, World, listens, anyOf, does, only, valueOf, stores, writesAll, readsAll, carried, listening, answered, addressed, messageIf, message, started, messages}
 use Rattle.agreement.specs.Inputs.{Bytes}

@@ -8,7 +8,7 @@ use Rattle.orders.specs.Kinds.{isCritical}
 use Rattle.orders.specs.Results.{Slotted, Batch}
 use Rattle.orders.specs.Marks.{Log}
 use Rattle.controller.specs.Plan.{Context, State, addressing, closing, reopening, opens, orders, does as doing}
-use Rattle.eeprom.specs.Keeping.{starts}
+use Rattle.store.specs.Keeping.{starts}
 use Rattle.eeprom.specs.Stages.{Core, hears, sdaOf, due}
 use Rattle.eeprom.specs.declared.Stage.the-variants.{Deaf, Naming}
 use Rattle.reading.specs.Clock.{Clock, symbol, pass}

@@ -11,7 +11,7 @@ use Rattle.orders.specs.Asking.{put, get, addressByte}
 use Rattle.orders.specs.Marks.{heard, written, readMark}
 use Rattle.orders.specs.declared.Quota.{Quota}
 use Rattle.controller.specs.Plan.{Context, State, addressing, addressed, writing, wrote, reading, answering, logged, marked, goOn, refused, writes, reads, carries, step, orders, does as doing}
-use Rattle.eeprom.specs.Keeping.{takes, steps}
+use Rattle.store.specs.Keeping.{takes, steps}
 use Rattle.eeprom.specs.Stages.{sdaOf}
 use Rattle.eeprom.specs.declared.Stage.the-variants.{Deaf, Naming, Taking, Asking}
 use Rattle.reading.specs.Clock.{Clock, symbol, symbols}

@@ -6,7 +6,7 @@ use mathlib.Core.Bool.{Bool, true, false, _&&_, _||_, not, cond, true≢false, f
 use mathlib.Core.List.{List, [], _∷_, map}
 use Rattle.lines.specs.Levels.{bitAt}
 use Rattle.lines.specs.declared.Event.the-variants.{Bit}
-use Rattle.eeprom.specs.Keeping.{Kept, byteNow}
+use Rattle.store.specs.Keeping.{Kept, byteNow}
 use Rattle.eeprom.specs.Stages.{hears, sdaOf}
 use Rattle.eeprom.specs.declared.Stage.{Stage}
 use Rattle.eeprom.specs.declared.Stage.the-variants.{Deaf, Sending}

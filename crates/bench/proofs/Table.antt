@@ -14,8 +14,8 @@ use Rattle.orders.specs.Marks.{readMark, note}
 use Rattle.symbols.specs.Faults.{faultOf}
 use Rattle.symbols.specs.Ticks.{controlTick}
 use Rattle.controller.specs.Bound.{clockedOf, mostTicks}
-use Rattle.eeprom.specs.Pages.{geometryOf, pageStart, pageStep, readStep, pointerOf}
-use Rattle.eeprom.specs.Keeping.{blankLatch, takes, byteNow, steps, starts, stored, stops}
+use Rattle.store.specs.Pages.{geometryOf, pageStart, pageStep, readStep, pointerOf}
+use Rattle.store.specs.Keeping.{blankLatch, takes, byteNow, steps, starts, stored, stops}
 use Rattle.eeprom.specs.Stages.{due, hears, sdaOf, bodyTick}
 use Rattle.eeprom.specs.States.{mostBusy}
 use Rattle.board.specs.Marks.{bodiesFrom, memories, stateRow}

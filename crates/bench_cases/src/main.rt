@@ -1,10 +1,10 @@
 // The whole bench sheet, unstarred cases included, over the wires and by the plain reading: a line for each case and each way, held against stored output.
 // A line: the number, the ticks, the result area, the pointer, the busy ticks left, and the bytes at places 0, 16, 31 and 32.
-use board::Answer;
 use io::print_decimal;
 use io::print_hex;
 use io::write_all;
 use libc::STDOUT_FILENO;
+use lines::Answer;
 use lines::byte_at;
 use orders::Checked;
 use orders::check;

@@ -12,10 +12,10 @@ use lib.Dec.{eqb, ltb, leb}
 use lib.ListN.{length}
 use Rattle.lines.specs.Levels.{bitAt, mostHeld}
 use Rattle.lines.specs.Records.{no, _then_, allWithin}
-use Rattle.eeprom.specs.Pages.{geometryOf}
+use Rattle.store.specs.Pages.{geometryOf}
 use Rattle.eeprom.specs.Stages.{Body}
 use Rattle.eeprom.specs.States.{mostBusy, wordAt}
-use Rattle.eeprom.specs.declared.Model.the-variants.{Large}
+use Rattle.store.specs.declared.Model.the-variants.{Large}
 use Rattle.board.specs.Marks.{placeOf, memoryAt, bodyAt, bodiesFrom, bodies}
 use Rattle.board.specs.Desk.{statesRight, boardNumber}
 use Rattle.board.proofs.Places.{all-places}

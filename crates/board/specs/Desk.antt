@@ -11,7 +11,7 @@ use Rattle.orders.specs.Results.{areaOf, checkOf, listNumber}
 use Rattle.eeprom.specs.Stages.{Body}
 use Rattle.eeprom.specs.States.{mostBusy, stateRight}
 use Rattle.board.specs.Marks.{chipCount, memoryAt, bodies, memories, stateRow}
-use Rattle.board.specs.declared.Answer.{Answer}
+use Rattle.lines.specs.declared.Answer.{Answer}
 
 unfoldable pub statesRight : List Body → Bool
 statesRight [] = true

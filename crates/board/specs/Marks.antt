@@ -5,11 +5,11 @@ use mathlib.Core.List.{List, [], _∷_, _++_}
 use lib.Count.{ones}
 use lib.ListN.{take, drop}
 use Rattle.lines.specs.Levels.{bitAt}
-use Rattle.eeprom.specs.Pages.{geometryOf}
+use Rattle.store.specs.Pages.{geometryOf}
 use Rattle.eeprom.specs.Stages.{Body}
 use Rattle.eeprom.specs.States.{bodyFrom, stateBytes}
-use Rattle.eeprom.specs.declared.Model.{Model}
-use Rattle.eeprom.specs.declared.Model.the-variants.{Large}
+use Rattle.store.specs.declared.Model.{Model}
+use Rattle.store.specs.declared.Model.the-variants.{Large}
 
 -- the number of chips is the count of ones
 abbrev pub chipCount : ℕ → ℕ

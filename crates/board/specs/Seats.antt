@@ -7,9 +7,10 @@ use lib.ListN.{take, drop}
 use Rattle.lines.specs.declared.Event.{Event}
 use Rattle.lines.specs.declared.Event.the-variants.{Quiet, Started, Stopped, Bit}
 use Rattle.lines.specs.Levels.{bitAt}
-use Rattle.eeprom.specs.Pages.{geometryOf}
+use Rattle.store.specs.Pages.{geometryOf}
 use Rattle.eeprom.specs.Stages.{Core, Body, coreOf, due, hears, sdaOf}
-use Rattle.eeprom.specs.States.{keptAt, wordAt, wordBytes}
+use Rattle.eeprom.specs.States.{wordAt, wordBytes}
+use Rattle.store.specs.Keeping.{keptAt}
 use Rattle.eeprom.specs.declared.Stage.{Stage}
 use Rattle.eeprom.specs.declared.Stage.the-variants.{Deaf, Naming, Named, Taking, Taken, Sending, Asking}
 use Rattle.board.specs.Marks.{modelAt, placeOf}

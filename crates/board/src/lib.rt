@@ -10,9 +10,7 @@ ghost use Rattle.board.specs.Desk.{statesRight, boardNumber};
 ghost use Rattle.board.specs.Seats.{parted, sizeOf, isDeaf, isBit, freeAfter, heard, seatAt, seatsFrom, seatBytes, seatRow};
 use eeprom::Chip;
 use eeprom::MOST_BUSY;
-use eeprom::Model;
 use eeprom::Stage;
-use eeprom::Store;
 use eeprom::put_state;
 use eeprom::state_right;
 use eeprom::word_at;
@@ -20,17 +18,13 @@ use lines::Event;
 use lines::MOST_HELD;
 use lines::all_within;
 use lines::bit_at;
+use store::Model;
+use store::Store;
 
 // A chip in a run, with the tick from which it is no longer busy.
 pub struct Seat {
     pub chip: Chip,
     pub free: usize,
-}
-
-// What a run says: 0 and its ticks, or the number of the refusal.
-pub struct Answer {
-    pub number: u8,
-    pub ticks: usize,
 }
 
 // The number of chips is the count of ones.

@@ -38,7 +38,7 @@ use Rattle.eeprom.specs.Stages.{Body}
 use Rattle.board.specs.Marks.{chipCount, memoryAt, bodies, memories, stateRow}
 use Rattle.board.specs.Desk.{Outcome, boardNumber, busNumber, ran, refusal}
 use Rattle.board.specs.Seats.{Seated, seated, offset, bodyOf, allUp, seatsFrom, seatRow}
-use Rattle.board.specs.declared.Answer.{Answer}
+use Rattle.lines.specs.declared.Answer.{Answer}
 use Rattle.board.specs.declared.Seat.{Seat}
 use Rattle.board.proofs.Loading.{loaded-is, loaded-fits, loaded-up}
 use Rattle.board.proofs.Places.{few as few-chips}

@@ -16,7 +16,7 @@ use Rattle.symbols.specs.Symbols.{drives, isOver}
 use Rattle.symbols.specs.Ticks.{Control}
 use Rattle.controller.specs.Cursor.{Spot, places}
 use Rattle.eeprom.specs.Stages.{Body, bodyTick, sdaOf}
-use Rattle.eeprom.proofs.Records.{overFrom, one-byte, all-bytes, from-front}
+use Rattle.lines.proofs.Records.{overFrom, one-byte, all-bytes, from-front}
 use Rattle.board.specs.Seats.{Seated, bodyOf, allUp}
 use Rattle.bus.specs.Holding.{Holding}
 use Rattle.bus.specs.Wires as Wires

@@ -12,7 +12,7 @@ use Rattle.controller.specs.Bound.{mostTicks}
 use Rattle.controller.specs.Alone.{atFirst}
 use Rattle.board.specs.Marks.{bodies}
 use Rattle.board.specs.Desk.{Outcome, busNumber, ran, refusal}
-use Rattle.board.specs.declared.Answer.{Answer}
+use Rattle.lines.specs.declared.Answer.{Answer}
 use Rattle.bus.specs.Wires.{Bus, Ran, run}
 
 -- before the first tick

@@ -6,7 +6,7 @@ use lib.Dec.{eqb}
 use Rattle.lines.specs.Levels.{bitAt, shifted}
 use Rattle.lines.specs.declared.Event.{Event}
 use Rattle.lines.specs.declared.Event.the-variants.{Quiet, Started, Stopped, Bit}
-use Rattle.eeprom.specs.Keeping.{Kept, takes, byteNow, steps, starts, stops}
+use Rattle.store.specs.Keeping.{Kept, takes, byteNow, steps, starts, stops}
 use Rattle.eeprom.specs.declared.Chip.{Chip}
 use Rattle.eeprom.specs.declared.Stage.{Stage}
 use Rattle.eeprom.specs.declared.Stage.the-variants.{Deaf, Naming, Named, Taking, Taken, Sending, Asking}

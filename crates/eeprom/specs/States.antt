@@ -1,14 +1,14 @@
 -- The four bytes of a chip's state, the pointer and then the busy ticks left, each low byte first; a chip before the first tick (paper 01, "What is on
 -- the board"). Assumes nothing.
 use Prim.Native.Nat.{ℕ, _+_, _*_, _/_, _%_}
-use mathlib.Core.Bool.{Bool, false, _&&_}
+use mathlib.Core.Bool.{Bool, _&&_}
 use mathlib.Core.List.{List, _∷_}
 use lib.Dec.{leb, ltb}
 use lib.ListN.{getD}
-use Rattle.eeprom.specs.Pages.{geometryOf}
-use Rattle.eeprom.specs.Keeping.{Kept, blankLatch}
+use Rattle.store.specs.Pages.{geometryOf}
+use Rattle.store.specs.Keeping.{keptAt}
 use Rattle.eeprom.specs.Stages.{Body}
-use Rattle.eeprom.specs.declared.Model.{Model}
+use Rattle.store.specs.declared.Model.{Model}
 use Rattle.eeprom.specs.declared.Stage.the-variants.{Deaf}
 
 -- the busy ticks that may be asked for or be left
@@ -23,10 +23,6 @@ abbrev pub wordBytes : ℕ → List ℕ → List ℕ
 wordBytes n rest = n % 256 ∷ n / 256 % 256 ∷ rest
 
 -- a chip that is not addressed
-abbrev pub keptAt : (name : ℕ) → Model → (pointer : ℕ) → List ℕ → Kept
-keptAt name model p m =
-    record { store = record { name = name; model = model; pointer = p; want = 0; high = 0; latched = false; latch = blankLatch }; memory = m }
-
 abbrev pub bodyAt : (name : ℕ) → Model → (pointer busy : ℕ) → List ℕ → Body
 bodyAt name model p busy m = record { core = record { stage = Deaf; kept = keptAt name model p m }; busy = busy }
 

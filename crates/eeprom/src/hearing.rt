@@ -4,16 +4,16 @@ ghost use mathlib.Core.Bool.{_&&_};
 ghost use mathlib.Core.List.{List};
 ghost use Prim.Native.Nat.{ℕ, _-_, _/_};
 ghost use lib.Dec.{eqb};
-ghost use Rattle.eeprom.specs.Keeping.{keptOf, stepped};
+ghost use Rattle.store.specs.Keeping.{keptOf, stepped};
 ghost use Rattle.eeprom.specs.Stages.{Core, coreOf, at, named, answered, bitTo, due, hears, sdaOf, busyAfter};
 ghost use Rattle.eeprom.specs.States.{bodyAt};
 use crate::Chip;
-use crate::Model;
 use crate::Stage;
-use crate::Store;
 use lines::Event;
 use lines::bit_at;
 use lines::shifted;
+use store::Model;
+use store::Store;
 
 impl Stage {
     // What is driven on SDA.

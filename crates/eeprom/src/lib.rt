@@ -1,35 +1,14 @@
-// The EEPROM: what it keeps (keeping), what it makes of an event and what it drives (hearing), and the entry "one chip alone" (alone).
-mod alone;
+// The EEPROM on the wires: what it makes of an event and what it drives (hearing), and the bytes of its state (states). What it keeps is a store's.
 mod hearing;
-mod keeping;
+mod states;
 
-pub use alone::chip_alone;
-pub use alone::put_state;
-pub use alone::state_right;
-pub use alone::word_at;
-use lines::Eye;
+pub use states::put_state;
+pub use states::state_right;
+pub use states::word_at;
+use store::Store;
 
 // The busy ticks that may be asked for or be left.
 pub const MOST_BUSY: u16 = 20000;
-
-// The parts that there are. What tells one from another stands in specs/Pages.antt.
-pub enum Model {
-    Large,
-}
-
-// What a chip keeps from byte to byte, its memory apart, which is lent.
-pub struct Store {
-    pub name: u8,
-    pub model: Model,
-    pub pointer: u16,
-    // pointer bytes still to come in this message
-    pub want: u8,
-    // the one that came
-    pub high: u8,
-    pub latched: bool,
-    // by place in the page; 256, which is no byte, where nothing is latched
-    pub latch: [u16; 32],
-}
 
 // Where a chip stands in a byte. Bits are counted down: so many come after the next.
 pub enum Stage {
@@ -52,16 +31,4 @@ pub enum Stage {
 pub struct Chip {
     pub stage: Stage,
     pub store: Store,
-}
-
-// A chip alone with the lines: what it saw last, and its busy ticks left.
-pub struct Watch {
-    pub eye: Eye,
-    pub chip: Chip,
-    pub busy: u16,
-}
-
-pub struct Answer {
-    pub number: u8,
-    pub ticks: usize,
 }

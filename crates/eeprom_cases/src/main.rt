@@ -26,7 +26,7 @@ fn runs(case: Case, rec: &[u8], ticks: u16) {
     let m = io::count(case.memory as isize, &memory);
     let y = io::count(case.state as isize, &state);
     let v = io::count(case.drives as isize, &drives);
-    let answer = eeprom::chip_alone(
+    let answer = lone_chip::chip_alone(
         case.strap,
         &mut memory[..m],
         &mut state[..y],

@@ -1,6 +1,6 @@
 // What came out of a run, in words.
-use eeprom::Answer;
 use eeprom::word_at;
+use lines::Answer;
 use lines::byte_at;
 
 // The byte at each place of the memory before a run.

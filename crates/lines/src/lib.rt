@@ -34,6 +34,12 @@ pub enum Event {
     Bit(bool),
 }
 
+// What an entry says: 0 and its ticks, or the number of the refusal and none.
+pub struct Answer {
+    pub number: u8,
+    pub ticks: usize,
+}
+
 impl Lines {
     pub fn released() -> Lines
         ensures { λ r. ⌜ r ≡ released ⌝ }

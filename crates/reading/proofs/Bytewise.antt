@@ -10,7 +10,7 @@ use lib.ListN.{getD, set}
 use Rattle.orders.specs.Kinds.{follow, remain}
 use Rattle.orders.specs.Asking.{get}
 use Rattle.orders.specs.Marks.{written, noteArea, readMark}
-use Rattle.eeprom.specs.Keeping.{steps}
+use Rattle.store.specs.Keeping.{steps}
 use Rattle.orders.specs.declared.Quota.{Quota}
 use Rattle.reading.specs.Plain.{World, listens, byteGoes, valueOf, writesAll, readsOne, readsAll, carried}
 use Rattle.reading.specs.Inside.{cellsOf, worldOf, Goes}

@@ -7,7 +7,7 @@ use mathlib.Core.Bool.{Bool, true, false}
 use mathlib.Core.List.{List, [], _∷_, map}
 use lib.ListN.{length, getD, take, drop, length-map, List·getD-map, drop-of-length-le}
 use lib.Seq.{drop-cons}
-use Rattle.eeprom.specs.Keeping.{keptOf, byteNow}
+use Rattle.store.specs.Keeping.{keptOf, byteNow}
 use Rattle.board.specs.Seats.{parted, sizeOf, seated, offset}
 use Rattle.board.specs.declared.Seat.{Seat}
 use Rattle.board.proofs.Seated.{seated-length, seated-at, offset-next, offset-within}

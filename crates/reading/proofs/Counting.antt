@@ -9,7 +9,7 @@ use Rattle.orders.specs.Asking.{Order, put, get, orderOf}
 use Rattle.orders.specs.Marks.{written}
 use Rattle.orders.specs.Results.{Slotted, Batch}
 use Rattle.orders.specs.declared.Quota.{Quota}
-use Rattle.eeprom.specs.Keeping.{takes, steps, starts}
+use Rattle.store.specs.Keeping.{takes, steps, starts}
 use Rattle.reading.specs.Clock.{symbol, pass}
 use Rattle.reading.specs.Plain.{Cell, World, does, only, valueOf, byteGoes, writesAll, readsOne, readsAll, carried, listening, answered, addressed, messageIf, message, started, messages, stores, closes, transactions}
 

@@ -5,10 +5,10 @@ use mathlib.Core.Bool.{Bool, true, false}
 use mathlib.Core.List.{List, []}
 use borrow.Author.Tests.{eq-eqb, ne-eqb}
 use lib.Dec.{leb}
-use Rattle.eeprom.specs.Keeping.{Kept, keptOf, takesAt, takes, steps, starts, stops}
-use Rattle.eeprom.specs.Pages.{geometryOf}
-use Rattle.eeprom.specs.declared.Model.{Model}
-use Rattle.eeprom.specs.declared.Store.{Store}
+use Rattle.store.specs.Keeping.{Kept, keptOf, takesAt, takes, steps, starts, stops}
+use Rattle.store.specs.Pages.{geometryOf}
+use Rattle.store.specs.declared.Model.{Model}
+use Rattle.store.specs.declared.Store.{Store}
 use Rattle.board.specs.Seats.{sizeOf}
 use Rattle.board.specs.declared.Seat.{Seat}
 use Rattle.reading.specs.Plain.{listens, stores}

@@ -25,7 +25,7 @@ use Rattle.board.specs.Marks.{memoryAt, bodies, memories, stateRow}
 use Rattle.board.specs.Desk.{Outcome, statesRight, boardNumber, busNumber}
 use Rattle.board.specs.Seats.{Seated, seated, offset, seatsFrom, seatRow}
 use Rattle.board.specs.Seats as seats
-use Rattle.board.specs.declared.Answer.{Answer}
+use Rattle.lines.specs.declared.Answer.{Answer}
 use Rattle.board.specs.declared.Seat.{Seat}
 use Rattle.board.proofs.Loading.{loaded-is, loaded-fits}
 use Rattle.board.proofs.Seated.{all-together}

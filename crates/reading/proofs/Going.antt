@@ -6,7 +6,7 @@ use mathlib.Core.Bool.{Bool}
 use mathlib.Core.List.{List, map}
 use lib.ListN.{length, getD, set}
 use Rattle.orders.specs.Marks.{Mark, noteArea, note}
-use Rattle.eeprom.specs.Keeping.{starts}
+use Rattle.store.specs.Keeping.{starts}
 use Rattle.board.specs.Seats.{offset}
 use Rattle.board.specs.declared.Seat.{Seat}
 use Rattle.reading.specs.Clock.{Clock, symbol, symbols, pass}

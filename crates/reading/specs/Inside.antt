@@ -5,8 +5,8 @@ use mathlib.Core.Bool.{Bool, true, cond}
 use mathlib.Core.List.{List, [], map}
 use lib.ListN.{length, drop}
 use Rattle.orders.specs.Results.{Batch}
-use Rattle.eeprom.specs.Keeping.{Kept, keptOf, geo, takesAt, takes, stepped, steps, emptied, starts}
-use Rattle.eeprom.specs.declared.Store.{Store}
+use Rattle.store.specs.Keeping.{Kept, keptOf, geo, takesAt, takes, stepped, steps, emptied, starts}
+use Rattle.store.specs.declared.Store.{Store}
 use Rattle.board.specs.Seats.{Seated, seated, offset}
 use Rattle.board.specs.declared.Seat.{Seat}
 use Rattle.reading.specs.Clock.{Clock, symbols, pass}

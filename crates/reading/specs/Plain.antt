@@ -9,7 +9,7 @@ use Rattle.orders.specs.Results.{Slotted, Batch}
 use Rattle.orders.specs.Marks.{Mark, heard, written, closed, readMark, Log, note}
 use Rattle.orders.specs.declared.Quota.{Quota}
 use Rattle.orders.specs.Asking.{Order, put, get, orderOf, addressByte}
-use Rattle.eeprom.specs.Keeping.{Kept, takes, byteNow, steps, starts, stops}
+use Rattle.store.specs.Keeping.{Kept, takes, byteNow, steps, starts, stops}
 use Rattle.reading.specs.Clock.{Clock, symbol, symbols, pass}
 
 -- a chip, and the tick from which it is no longer busy

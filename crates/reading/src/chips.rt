@@ -8,7 +8,7 @@ ghost use Rattle.reading.specs.Plain.{listens, anyOf, valueOf, stores};
 ghost use Rattle.reading.specs.Inside.{far, cellAt, cellsOf, storeDoes, meant, moves, seatMoves, freeAfter};
 use board::Seat;
 use eeprom::Chip;
-use eeprom::Store;
+use store::Store;
 
 // What a chip does: at a START it drops its latch; it takes a byte written to it, and has sent a byte read from it.
 pub enum Deed {

@@ -6,7 +6,7 @@ use std::fs;
 use std::path::Path;
 use std::process::{exit, Command};
 
-const RULES: [&str; 7] = ["lines", "orders", "controller", "eeprom", "board", "bus", "reading"];
+const RULES: [&str; 10] = ["lines", "orders", "symbols", "controller", "store", "eeprom", "lone_chip", "board", "bus", "reading"];
 const THEOREMS: [&str; 2] = ["agreement", "bench"];
 
 struct Wrong {
@@ -22,7 +22,7 @@ const TRIED: [Wrong; 5] = [
     Wrong { name: "the rules as they are", edits: &[], proved: &["agreement", "bench"], refused: &[] },
     Wrong {
         name: "a page of 64 on both sides",
-        edits: &[("eeprom/specs/Pages.antt", "page = 32", "page = 64")],
+        edits: &[("store/specs/Pages.antt", "page = 32", "page = 64")],
         proved: &["agreement"],
         refused: &["bench"],
     },

@@ -1,3 +1,4 @@
+-- `board::free_after` meets its contract. Assumes nothing.
 use borrow.Author.Needs.{needs}
 use Rattle.board.proofs.free_after.Statement.{statement}
 use Rattle.board.proofs.free_after.Tie as tie

@@ -1,3 +1,4 @@
+-- `board::seat_at` meets its contract. Assumes nothing.
 use denote.Ref.{now}
 use mathlib.Core.Path.{refl}
 use Rattle.board.proofs.Loading.{seat-so}
@@ -7,7 +8,7 @@ use Rattle.board.proofs.seat_at.Tie as tie
 use Rattle.board.proofs.seat_at.Reads as reads
 use Rattle.board.proofs.seat_at.Lts as lts
 use Rattle.board.proofs.place_of.Reads as place-of-reads
-use Rattle.eeprom.proofs.Store.at_rest.Reads as at-rest-reads
+use Rattle.store.proofs.Store.at_rest.Reads as at-rest-reads
 use Rattle.eeprom.proofs.word_at.Reads as word-at-reads
 
 -- src/lib.rt:80:17

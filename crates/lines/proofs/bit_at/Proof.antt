@@ -1,3 +1,4 @@
+-- `lines::bit_at` meets its contract. Assumes nothing.
 use borrow.Author.Needs.{needs}
 use Rattle.lines.proofs.Laws.{bit-is, no-ninth}
 use Rattle.lines.proofs.bit_at.Statement.{statement}

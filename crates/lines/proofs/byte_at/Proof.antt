@@ -1,3 +1,4 @@
+-- `lines::byte_at` meets its contract. Assumes nothing.
 use borrow.Author.Needs.{needs}
 use Rattle.lines.proofs.Laws.{past-end}
 use Rattle.lines.proofs.byte_at.Statement.{statement}

@@ -1,3 +1,4 @@
+-- `lines::noted_after` meets its contract. Assumes nothing.
 use borrow.Author.Needs.{needs}
 use Rattle.lines.proofs.noted_after.Statement.{statement}
 use Rattle.lines.proofs.noted_after.Tie as tie

@@ -1,3 +1,4 @@
+-- `lines::put_at` meets its contract. Assumes nothing.
 use borrow.Author.Needs.{needs}
 use Rattle.lines.proofs.Laws.{not-stored}
 use Rattle.lines.proofs.put_at.Statement.{statement}

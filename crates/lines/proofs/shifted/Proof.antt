@@ -1,3 +1,4 @@
+-- `lines::shifted` meets its contract. Assumes nothing.
 use borrow.Author.Needs.{needs}
 use Rattle.lines.proofs.Laws.{with-one, with-none}
 use Rattle.lines.proofs.shifted.Statement.{statement}

@@ -1,3 +1,4 @@
+-- `board::Seat::hear` meets its contract. Assumes nothing.
 use Rattle.board.proofs.Heard.{heard-so}
 use borrow.Author.Needs.{needs}
 use Rattle.board.proofs.Seat.hear.Statement.{statement}

@@ -1,3 +1,4 @@
+-- `eeprom::Chip::answered` meets its contract. Assumes nothing.
 use borrow.Author.Needs.{needs}
 use Rattle.eeprom.proofs.Hears.{falls-silent, sends-next}
 use Rattle.eeprom.proofs.Chip.answered.Statement.{statement}

@@ -1,3 +1,4 @@
+-- `eeprom::Chip::at_rest` meets its contract. Assumes nothing.
 use borrow.Author.Needs.{needs}
 use Rattle.eeprom.proofs.Hears.{rests-deaf}
 use Rattle.eeprom.proofs.Chip.at_rest.Statement.{statement}

@@ -1,3 +1,4 @@
+-- `eeprom::Chip::bit` meets its contract. Assumes nothing.
 use borrow.Author.Needs.{needs}
 use Rattle.eeprom.proofs.Hears.{names-on, names-last, named-read, named-write, takes-on, takes-last, took, sends-on, sends-last, asked, deaf}
 use Rattle.eeprom.proofs.Chip.bit.Statement.{statement}

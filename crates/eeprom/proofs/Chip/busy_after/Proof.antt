@@ -1,3 +1,4 @@
+-- `eeprom::Chip::busy_after` meets its contract. Assumes nothing.
 use borrow.Author.Needs.{needs}
 use Rattle.eeprom.proofs.Hears.{falls-quiet, falls-at-start, set-at-stop, falls-at-stop, falls-at-bit}
 use Rattle.eeprom.proofs.Chip.busy_after.Statement.{statement}

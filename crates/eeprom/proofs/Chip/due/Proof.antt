@@ -1,3 +1,4 @@
+-- `eeprom::Chip::due` meets its contract. Assumes nothing.
 use mathlib.Core.Path.{refl}
 use Rattle.eeprom.specs.Stages.{due}
 use Rattle.eeprom.proofs.Chip.due.Statement.{statement}

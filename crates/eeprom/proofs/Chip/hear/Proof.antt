@@ -1,3 +1,4 @@
+-- `eeprom::Chip::hear` meets its contract. Assumes nothing.
 use borrow.Author.Needs.{needs}
 use Rattle.eeprom.proofs.Hears.{hears-nothing, hears-start, hears-stop, hears-bit}
 use Rattle.eeprom.proofs.Chip.hear.Statement.{statement}

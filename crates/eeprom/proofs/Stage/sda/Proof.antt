@@ -1,3 +1,4 @@
+-- `eeprom::Stage::sda` meets its contract. Assumes nothing.
 use borrow.Author.Needs.{needs}
 use Rattle.eeprom.specs.Stages.{sdaOf}
 use Rattle.eeprom.proofs.Stage.sda.Statement.{statement}

@@ -1,3 +1,4 @@
+-- `eeprom::hearing::named` meets its contract. Assumes nothing.
 use borrow.Author.Tests.{eq-eqb, ne-eqb}
 use Rattle.eeprom.proofs.hearing.named.Statement.{statement}
 use Rattle.eeprom.proofs.hearing.named.Tie as tie

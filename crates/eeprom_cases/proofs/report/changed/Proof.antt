@@ -1,3 +1,4 @@
+-- `eeprom_cases::report::changed` meets its contract. Assumes nothing.
 use Prim.Native.Nat.{_≤_, _-_}
 use borrow.Author.Needs.{needs}
 use Rattle.eeprom_cases.proofs.report.changed.Statement.{statement}

@@ -1,3 +1,4 @@
+-- `eeprom_cases::report::first_bytes` meets its contract. Assumes nothing.
 use Prim.Native.Nat.{_≤_, _-_}
 use borrow.Author.Needs.{needs}
 use lib.ListN.{length}

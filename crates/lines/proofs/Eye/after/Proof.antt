@@ -1,3 +1,4 @@
+-- `lines::Eye::after` meets its contract. Assumes nothing.
 use borrow.Author.Needs.{needs}
 use Rattle.lines.proofs.Eye.after.Statement.{statement}
 use Rattle.lines.proofs.Eye.after.Tie as tie

@@ -1,3 +1,4 @@
+-- `lines::Lines::byte` meets its contract. Assumes nothing.
 use Rattle.lines.proofs.Lines.byte.Statement.{statement}
 use Rattle.lines.proofs.Lines.byte.Tie as tie
 

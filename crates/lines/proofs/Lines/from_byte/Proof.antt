@@ -1,3 +1,4 @@
+-- `lines::Lines::from_byte` meets its contract. Assumes nothing.
 use borrow.Author.Needs.{needs}
 use Rattle.lines.proofs.Lines.from_byte.Statement.{statement}
 use Rattle.lines.proofs.Lines.from_byte.Tie as tie

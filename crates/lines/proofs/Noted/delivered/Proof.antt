@@ -1,3 +1,4 @@
+-- `lines::Noted::delivered` meets its contract. Assumes nothing.
 use borrow.Author.Needs.{needs}
 use Rattle.lines.proofs.Noted.delivered.Statement.{statement}
 use Rattle.lines.proofs.Noted.delivered.Tie as tie

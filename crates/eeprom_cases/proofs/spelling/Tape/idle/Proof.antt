@@ -1,3 +1,4 @@
+-- `eeprom_cases::spelling::Tape::idle` meets its contract. Assumes nothing.
 use borrow.Author.Needs.{needs}
 use lib.ListN.{length}
 use mathlib.Core.Path.{_≡_}

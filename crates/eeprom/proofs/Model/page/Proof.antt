@@ -1,8 +1,0 @@
-use Rattle.eeprom.proofs.Pages.{page-shape}
-use Rattle.eeprom.proofs.Model.page.Statement.{statement}
-use Rattle.eeprom.proofs.Model.page.Tie as tie
-
-pub page-spec : {M : Type 1} → statement M
-page-spec =
-    tie.close (tie.spec
-    (λ c. page-shape _))

@@ -1,8 +1,0 @@
-use Rattle.eeprom.proofs.Takes.{blank}
-use Rattle.eeprom.proofs.Store.emptied.Statement.{statement}
-use Rattle.eeprom.proofs.Store.emptied.Tie as tie
-
-pub emptied-spec : {M : Type 1} → statement M
-emptied-spec =
-    tie.close (tie.spec
-    (λ c. rw (← blank)))
