@@ -8,7 +8,8 @@ use borrow.Author.Tests.{leb-true, ltb-false, not-false}
 use lib.Dec.{eqb, ltb}
 use lib.ListN.{length}
 use Rattle.lines.specs.Levels.{mostHeld}
-use Rattle.lines.specs.Records.{no, _then_, allWithin}
+use Rattle.lent.specs.Refusals.{no, _then_}
+use Rattle.lent.specs.Areas.{allWithin}
 use Rattle.orders.specs.Kinds.{addressRight}
 use Rattle.orders.specs.Form.{Message, Transaction}
 use Rattle.orders.specs.Results.{areaOf, slotsOf, slotted, batches, checkOf, listNumber}

@@ -14,8 +14,8 @@ use Rattle.symbols.specs.declared.Fault.the-variants.{Clear}
 use Rattle.symbols.specs.declared.Phase.the-variants.{Over}
 use Rattle.eeprom.specs.Stages.{Body, sdaOf}
 use Rattle.eeprom.specs.declared.Stage.the-variants.{Deaf}
-use Rattle.bus.specs.Wires.{Bus, allUp, linesOn, after}
-use Rattle.reading.specs.Plain.{Cell, World, transactions}
+use Rattle.wires.specs.Wires.{Bus, allUp, linesOn, after}
+use Rattle.plain.specs.Plain.{Cell, World, transactions}
 use Rattle.reading.specs.Read.{cellOf, bodyOf}
 use Rattle.agreement.proofs.Maps.{map-by}
 use Rattle.agreement.proofs.Time.{bodyAt, up, up-at}

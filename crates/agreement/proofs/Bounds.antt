@@ -12,8 +12,8 @@ use Rattle.orders.specs.Form.{Message, Transaction}
 use Rattle.orders.specs.Asking.{put, get, orderOf}
 use Rattle.orders.specs.Results.{Batch, slotsOf, slotted, batches}
 use Rattle.controller.specs.Bound.{bytesOf, clockedOf, mostTicks}
-use Rattle.reading.specs.Clock.{symbol}
-use Rattle.reading.specs.Plain.{World, valueOf, listening, answered, message, started, transactions}
+use Rattle.plain.specs.Clock.{symbol}
+use Rattle.plain.specs.Plain.{World, valueOf, listening, answered, message, started, transactions}
 use Rattle.agreement.specs.Course.{here, batchAt, sizeOf, opened, transaction}
 use Rattle.agreement.specs.Sums.{Sum, alone, with, clockedIn, ticksOf}
 use Rattle.agreement.proofs.Quotas.{quota-fits}

@@ -17,8 +17,8 @@ use Rattle.store.specs.Keeping.{takes, steps}
 use Rattle.eeprom.specs.Stages.{named, hears, sdaOf}
 use Rattle.eeprom.specs.declared.Stage.{Stage}
 use Rattle.eeprom.specs.declared.Stage.the-variants.{Deaf, Naming, Named, Taking, Taken, Asking}
-use Rattle.reading.specs.Clock.{Clock, symbol, symbols}
-use Rattle.reading.specs.Plain.{Cell, listens, anyOf, does, only, valueOf}
+use Rattle.plain.specs.Clock.{Clock, symbol, symbols}
+use Rattle.plain.specs.Plain.{Cell, listens, anyOf, does, only, valueOf}
 use Rattle.agreement.proofs.Maps.{map-by}
 use Rattle.agreement.proofs.Time.{Timed, hearsAt}
 use Rattle.agreement.proofs.Interface.{Watch, On, sends, receives}

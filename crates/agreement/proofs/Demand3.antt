@@ -8,10 +8,10 @@ use borrow.Author.Tests.{eqb-true, eq-eqb}
 use lib.Dec.{eqb}
 use lib.ListN.{length, getD}
 use Rattle.lines.specs.Levels.{byteOf}
-use Rattle.lines.specs.Records.{over}
+use Rattle.lent.specs.Areas.{over}
 use Rattle.controller.specs.Plan.{orders}
 use Rattle.board.specs.Desk.{Outcome, ran, refusal}
-use Rattle.bus.specs.Wires.{Ran, linesOn, after}
+use Rattle.wires.specs.Wires.{Ran, linesOn, after}
 use Rattle.bus.specs.Run.{Traced, wireRun}
 use Rattle.reading.specs.Read.{bodyOf, plain, plainRun}
 use Rattle.agreement.specs.Inputs.{Bytes, Input, number, listed, batched, begin, whole, answer, Accepted}

@@ -12,8 +12,8 @@ use Rattle.controller.specs.Plan.{State, orders}
 use Rattle.controller.specs.Bound.{mostTicks}
 use Rattle.board.specs.Marks.{bodies}
 use Rattle.board.specs.Desk.{Outcome, ran}
-use Rattle.bus.specs.Wires.{Bus, Ran, after, run}
-use Rattle.reading.specs.Plain.{World}
+use Rattle.wires.specs.Wires.{Bus, Ran, after, run}
+use Rattle.plain.specs.Plain.{World}
 use Rattle.reading.specs.Read.{cellOf, bodyOf, plain, plainRun}
 use Rattle.agreement.specs.Inputs.{Input, listed, batched, begin, whole, answer, Accepted}
 use Rattle.agreement.specs.Outcomes.{Ends}

@@ -9,9 +9,9 @@ use lib.Dec.{ltb}
 use Rattle.symbols.specs.Ticks.{Plan, first, clocked}
 use Rattle.symbols.specs.declared.Symbol.{Symbol}
 use Rattle.symbols.specs.declared.Symbol.the-variants.{Stop}
-use Rattle.bus.specs.Holding.{firstHold}
-use Rattle.bus.specs.Wires.{Bus, after}
-use Rattle.reading.specs.Clock.{Clock, symbol, pass}
+use Rattle.wires.specs.Holding.{firstHold}
+use Rattle.wires.specs.Wires.{Bus, after}
+use Rattle.plain.specs.Clock.{Clock, symbol, pass}
 use Rattle.agreement.proofs.Table.{Fine}
 use Rattle.agreement.proofs.Time.{Timed, up}
 use Rattle.agreement.proofs.Symbols.{after-add, symbol-through, opening-through}

@@ -13,8 +13,8 @@ use Rattle.controller.specs.Plan.{State, opens, orders}
 use Rattle.eeprom.specs.Stages.{Body}
 use Rattle.board.specs.Marks.{bodies}
 use Rattle.board.specs.Desk.{Outcome}
-use Rattle.bus.specs.Wires.{Bus, after}
-use Rattle.reading.specs.Plain.{World, transactions}
+use Rattle.wires.specs.Wires.{Bus, after}
+use Rattle.plain.specs.Plain.{World, transactions}
 use Rattle.reading.specs.Read.{plain}
 use Rattle.agreement.specs.Inputs.{Input, listed, batched, begin, answer, Accepted}
 use Rattle.agreement.specs.Course.{batchAt, sizeOf}

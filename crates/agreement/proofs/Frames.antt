@@ -15,7 +15,7 @@ use Rattle.orders.specs.Results.{Slotted, slotsOf}
 use Rattle.orders.specs.Marks.{written, readMark, note}
 use Rattle.orders.specs.declared.Quota.{Quota}
 use Rattle.store.specs.Keeping.{takes}
-use Rattle.reading.specs.Plain.{Cell, World, valueOf, byteGoes, writesAll, readsAll, readsOne, carried, listening, answered, addressed, messageIf, message}
+use Rattle.plain.specs.Plain.{Cell, World, valueOf, byteGoes, writesAll, readsAll, readsOne, carried, listening, answered, addressed, messageIf, message}
 use Rattle.agreement.proofs.Quotas.{quota-fits}
 use Rattle.agreement.proofs.Right.{Right}
 use Rattle.agreement.proofs.Tally.{dataSent}

@@ -15,8 +15,8 @@ use Rattle.orders.specs.declared.Quota.{Quota}
 use Rattle.store.specs.Pages.{pageStart}
 use Rattle.store.specs.Keeping.{Kept, geo, takesAt, takes, byteNow, steps, starts, stored, stops}
 use Rattle.store.specs.declared.Store.{Store}
-use Rattle.reading.specs.Clock.{symbol}
-use Rattle.reading.specs.Plain.{Cell, World, listens, anyOf, does, only, valueOf, stores, writesAll, readsAll, carried, listening, answered, addressed, messageIf, message, started, messages}
+use Rattle.plain.specs.Clock.{symbol}
+use Rattle.plain.specs.Plain.{Cell, World, listens, anyOf, does, only, valueOf, stores, writesAll, readsAll, carried, listening, answered, addressed, messageIf, message, started, messages}
 use Rattle.agreement.specs.Inputs.{Bytes}
 use Rattle.agreement.proofs.Tuned.{Lone}
 

@@ -11,9 +11,9 @@ use Rattle.symbols.specs.Ticks.{Plan, first, clocked}
 use Rattle.symbols.specs.declared.Begin.the-variants.{First, Repeated}
 use Rattle.symbols.specs.declared.Symbol.{Symbol}
 use Rattle.symbols.specs.declared.Symbol.the-variants.{Start, Stop, Sent, Received}
-use Rattle.bus.specs.Holding.{firstHold}
-use Rattle.bus.specs.Wires.{Bus, after}
-use Rattle.reading.specs.Clock.{Clock, symbol, pass}
+use Rattle.wires.specs.Holding.{firstHold}
+use Rattle.wires.specs.Wires.{Bus, after}
+use Rattle.plain.specs.Clock.{Clock, symbol, pass}
 use Rattle.agreement.proofs.Table.{late, Fine}
 use Rattle.agreement.proofs.Time.{Timed, hearsAt, stopsAt, up}
 use Rattle.agreement.proofs.Symbols.{after-add}

@@ -11,8 +11,8 @@ use Rattle.controller.specs.Plan.{Context, State, addressing, closing, reopenin
 use Rattle.store.specs.Keeping.{starts}
 use Rattle.eeprom.specs.Stages.{Core, hears, sdaOf, due}
 use Rattle.eeprom.specs.declared.Stage.the-variants.{Deaf, Naming}
-use Rattle.reading.specs.Clock.{Clock, symbol, pass}
-use Rattle.reading.specs.Plain.{Cell, World, does, answered, message, messages, stores, transactions}
+use Rattle.plain.specs.Clock.{Clock, symbol, pass}
+use Rattle.plain.specs.Plain.{Cell, World, does, answered, message, messages, stores, transactions}
 use Rattle.agreement.specs.Between.{between}
 use Rattle.agreement.specs.Course.{opened, transaction}
 use Rattle.agreement.proofs.Maps.{map-square}

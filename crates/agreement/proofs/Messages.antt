@@ -14,8 +14,8 @@ use Rattle.controller.specs.Plan.{Context, State, addressing, addressed, writin
 use Rattle.store.specs.Keeping.{takes, steps}
 use Rattle.eeprom.specs.Stages.{sdaOf}
 use Rattle.eeprom.specs.declared.Stage.the-variants.{Deaf, Naming, Taking, Asking}
-use Rattle.reading.specs.Clock.{Clock, symbol, symbols}
-use Rattle.reading.specs.Plain.{Cell, World, listens, anyOf, does, only, valueOf, writesAll, readsAll, carried, answered, messageIf, message}
+use Rattle.plain.specs.Clock.{Clock, symbol, symbols}
+use Rattle.plain.specs.Plain.{Cell, World, listens, anyOf, does, only, valueOf, writesAll, readsAll, carried, answered, messageIf, message}
 use Rattle.agreement.specs.Inputs.{Bytes}
 use Rattle.agreement.specs.Between.{between}
 use Rattle.agreement.proofs.Time.{Timed, up}

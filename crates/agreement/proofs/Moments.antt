@@ -12,8 +12,8 @@ use Rattle.symbols.specs.Faults.{faultOf}
 use Rattle.symbols.specs.Ticks.{Plan}
 use Rattle.symbols.specs.declared.Fault.the-variants.{Clear}
 use Rattle.symbols.specs.declared.Phase.the-variants.{Zero, One, Two, Three}
-use Rattle.bus.specs.Holding.{firstHold}
-use Rattle.bus.specs.Wires.{Bus, allUp, joined, linesOn}
+use Rattle.wires.specs.Holding.{firstHold}
+use Rattle.wires.specs.Wires.{Bus, allUp, joined, linesOn}
 use Rattle.agreement.proofs.Table.{mid, late, lines-zero, lines-one, lines-two, lines-three, clear-zero, clear-one, clear-held, clear-two, clear-three}
 use Rattle.agreement.proofs.Time.{Timed, bodiesAt, up, up-at}
 use Rattle.agreement.proofs.Symbols.{Setting, Sound, middle, last, inZero, inOne, inTwo, inThree, inWait, openZero, openOne, openTwo, openThree}

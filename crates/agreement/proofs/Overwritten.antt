@@ -8,7 +8,7 @@ use borrow.Author.Tests.{leb-true, leb-false}
 use lib.Dec.{leb}
 use lib.ListN.{length, getD, take, drop, length-append, length-take, length-drop, List·getD-append, List·getD-eq-default}
 use lib.Seq.{getD-take, getD-drop, getD-append-add, take-all}
-use Rattle.lines.specs.Records.{over}
+use Rattle.lent.specs.Areas.{over}
 
 module _ (row lent : List ℕ) where
   pub over-length : length (over row lent) ≡ length lent

@@ -9,7 +9,7 @@ use lib.ListN.{length, getD}
 use Rattle.lines.specs.Levels.{byteOf}
 use Rattle.symbols.specs.Symbols.{isOver}
 use Rattle.symbols.specs.Ticks.{Plan}
-use Rattle.bus.specs.Wires.{Bus, linesOn, tick, after, oneMore, run}
+use Rattle.wires.specs.Wires.{Bus, linesOn, tick, after, oneMore, run}
 
 module _ (Q : Plan) (asked : ℕ) where
   -- the lines of the first n ticks

@@ -13,8 +13,8 @@ use Rattle.orders.specs.Form.{Message, Transaction}
 use Rattle.orders.specs.Asking.{orderOf}
 use Rattle.orders.specs.Results.{Slotted, slotsOf, slotsOfAll, slotted}
 use Rattle.orders.specs.Marks.{note}
-use Rattle.reading.specs.Clock.{symbol}
-use Rattle.reading.specs.Plain.{World, listening, answered, message, started, messages}
+use Rattle.plain.specs.Clock.{symbol}
+use Rattle.plain.specs.Plain.{World, listening, answered, message, started, messages}
 use Rattle.agreement.specs.Course.{here, batchAt, sizeOf, opened, transaction}
 use Rattle.agreement.specs.Sums.{Sum, flagged, bytesBy, alone, with, sumOf, sumIn}
 use Rattle.agreement.proofs.Right.{Right, Rights}

@@ -8,7 +8,7 @@ use lib.ListN.{drop}
 use lib.Seq.{drop-drop}
 use Rattle.orders.specs.Form.{Transaction}
 use Rattle.orders.specs.Results.{Batch, areaOf, batches}
-use Rattle.reading.specs.Plain.{World, transactions}
+use Rattle.plain.specs.Plain.{World, transactions}
 use Rattle.agreement.specs.Course.{batchAt, sizeOf, transaction}
 use Rattle.agreement.specs.Sums.{Sum, sumIn, clockedIn, ticksOf, ticksAll, clockedAll}
 use Rattle.agreement.proofs.Right.{RightAll}

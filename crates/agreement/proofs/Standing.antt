@@ -10,7 +10,7 @@ use borrow.Author.Tests.{leb-true}
 use lib.Dec.{leb}
 use Rattle.lines.specs.Levels.{hi, lo, mostHeld}
 use Rattle.lines.specs.Events.{delivered}
-use Rattle.lines.specs.Records.{allWithin}
+use Rattle.lent.specs.Areas.{allWithin}
 use Rattle.lines.specs.declared.Noted.{Noted}
 use Rattle.lines.specs.declared.Noted.the-variants.{Nothing, Level}
 use Rattle.lines.specs.declared.Event.{Event}
@@ -21,9 +21,9 @@ use Rattle.symbols.specs.declared.Begin.the-variants.{First, Repeated}
 use Rattle.symbols.specs.declared.Symbol.{Symbol}
 use Rattle.symbols.specs.declared.Symbol.the-variants.{Start, Stop, Sent, Received}
 use Rattle.eeprom.specs.Stages.{Body, bodyTick}
-use Rattle.bus.specs.Holding.{firstHold, laterHolds}
-use Rattle.bus.specs.Wires.{Bus, after}
-use Rattle.reading.specs.Clock.{Clock, symbol}
+use Rattle.wires.specs.Holding.{firstHold, laterHolds}
+use Rattle.wires.specs.Wires.{Bus, after}
+use Rattle.plain.specs.Clock.{Clock, symbol}
 use Rattle.agreement.proofs.Table.{late, Fine, told, kept}
 use Rattle.agreement.proofs.Time.{Timed, bodiesAt, hearsAt, stopsAt, up, quiet-tick, start-tick, stop-tick, quiet-same}
 use Rattle.agreement.proofs.Ticks.{eye, bus, atStart}

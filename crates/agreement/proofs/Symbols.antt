@@ -18,8 +18,8 @@ use Rattle.symbols.specs.declared.Symbol.{Symbol}
 use Rattle.symbols.specs.declared.Symbol.the-variants.{Start}
 use Rattle.symbols.specs.declared.Phase.the-variants.{Zero, One, Two, Three}
 use Rattle.eeprom.specs.Stages.{bodyTick}
-use Rattle.bus.specs.Holding.{firstHold, laterHolds}
-use Rattle.bus.specs.Wires.{Bus, tick, after}
+use Rattle.wires.specs.Holding.{firstHold, laterHolds}
+use Rattle.wires.specs.Wires.{Bus, tick, after}
 use Rattle.agreement.proofs.Table.{mid, late, Fine, told, kept}
 use Rattle.agreement.proofs.Time.{Timed, bodiesAt, hearsAt, up}
 use Rattle.agreement.proofs.Ticks.{eye, bus, atStart, zero-tick, one-tick, held-tick, two-tick, three-tick, wait-tick, first-zero, first-one, first-two, first-three}

@@ -18,7 +18,7 @@ use Rattle.symbols.specs.declared.Symbol.{Symbol}
 use Rattle.symbols.specs.declared.Symbol.the-variants.{Start, Stop, Sent, Received}
 use Rattle.symbols.specs.declared.Fault.the-variants.{Clear}
 use Rattle.symbols.specs.declared.Phase.the-variants.{Zero, One, Two, Three}
-use Rattle.bus.specs.Wires.{joined}
+use Rattle.wires.specs.Wires.{joined}
 
 -- SDA driven in phases 1 and 2
 abbrev pub mid : Symbol → Bool

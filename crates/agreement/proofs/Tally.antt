@@ -11,9 +11,9 @@ use Rattle.orders.specs.Kinds.{isCritical, follow, remain}
 use Rattle.orders.specs.Asking.{Order, put, get, orderOf}
 use Rattle.orders.specs.Results.{Slotted, Batch}
 use Rattle.orders.specs.declared.Quota.{Quota}
-use Rattle.bus.specs.Holding.{firstHold, laterHolds}
-use Rattle.reading.specs.Clock.{Clock, symbol, symbols, pass}
-use Rattle.reading.specs.Plain.{Cell, World, valueOf, writesAll, readsAll, carried, listening, answered, addressed, messageIf, message, started, messages}
+use Rattle.wires.specs.Holding.{firstHold, laterHolds}
+use Rattle.plain.specs.Clock.{Clock, symbol, symbols, pass}
+use Rattle.plain.specs.Plain.{Cell, World, valueOf, writesAll, readsAll, carried, listening, answered, addressed, messageIf, message, started, messages}
 use Rattle.agreement.specs.Course.{opened, transaction}
 use Rattle.agreement.specs.Sums.{Sum, alone, with, clockedIn, held, ticksOf}
 use Rattle.agreement.proofs.Standing.{Small, small-first, small-later, symbol-is}

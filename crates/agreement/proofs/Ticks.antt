@@ -26,8 +26,8 @@ use Rattle.symbols.specs.declared.Fault.the-variants.{Clear}
 use Rattle.symbols.specs.declared.Phase.{Phase}
 use Rattle.symbols.specs.declared.Phase.the-variants.{Waiting, Zero, One, Two, Three}
 use Rattle.eeprom.specs.Stages.{Body, bodyTick}
-use Rattle.bus.specs.Holding.{holdTick, firstHold, laterHolds}
-use Rattle.bus.specs.Wires.{Bus, allUp, joined, seeing, tick}
+use Rattle.wires.specs.Holding.{holdTick, firstHold, laterHolds}
+use Rattle.wires.specs.Wires.{Bus, allUp, joined, seeing, tick}
 use Rattle.agreement.proofs.Table.{mid, late, Fine, clocked-row, lines-zero, lines-one, lines-two, lines-three, clear-zero, clear-one, clear-held, clear-two, clear-three, told, kept, told-is, kept-is}
 use Rattle.agreement.proofs.Time.{Timed, bodiesAt, hearsAt, up, up-at, quiet-tick, deliver-tick, start-tick}
 

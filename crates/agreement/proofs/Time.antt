@@ -13,7 +13,7 @@ use Rattle.lines.specs.declared.Noted.the-variants.{Nothing, Level}
 use Rattle.lines.specs.declared.Event.{Event}
 use Rattle.lines.specs.declared.Event.the-variants.{Quiet, Started, Stopped, Bit}
 use Rattle.eeprom.specs.Stages.{Core, Body, hears, sdaOf, due, bodyTick}
-use Rattle.bus.specs.Wires.{allUp}
+use Rattle.wires.specs.Wires.{allUp}
 use Rattle.agreement.proofs.Maps.{map-square, map-by, map-same}
 
 pub record Timed : Type 0 where

@@ -7,7 +7,7 @@ use native.Mathlib.Omega.{arith}
 use lib.ListN.{length, drop}
 use Rattle.orders.specs.Form.{Transaction}
 use Rattle.orders.specs.Results.{Batch, areaOf, batches}
-use Rattle.reading.specs.Plain.{World, transactions}
+use Rattle.plain.specs.Plain.{World, transactions}
 use Rattle.agreement.specs.Course.{batchAt, sizeOf, opened, transaction}
 use Rattle.agreement.specs.Sums.{Sum, sumIn, clockedIn, ticksOf, ticksAll}
 use Rattle.agreement.specs.Outcomes.{AllClosed}

@@ -10,7 +10,7 @@ use Rattle.store.specs.Keeping.{Kept, byteNow}
 use Rattle.eeprom.specs.Stages.{hears, sdaOf}
 use Rattle.eeprom.specs.declared.Stage.{Stage}
 use Rattle.eeprom.specs.declared.Stage.the-variants.{Deaf, Sending}
-use Rattle.reading.specs.Plain.{Cell, anyOf, does, only, valueOf}
+use Rattle.plain.specs.Plain.{Cell, anyOf, does, only, valueOf}
 use Rattle.agreement.proofs.Time.{Timed, hearsAt, up}
 
 abbrev pub wake : Stage → Cell → Timed

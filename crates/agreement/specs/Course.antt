@@ -3,8 +3,8 @@ use Prim.Native.Nat.{ℕ, _+_}
 use mathlib.Core.List.{_∷_}
 use Rattle.orders.specs.Form.{Message, Transaction}
 use Rattle.orders.specs.Results.{Slotted, Batch, slotsOf, slotsOfAll, slotted}
-use Rattle.reading.specs.Clock.{pass}
-use Rattle.reading.specs.Plain.{World, started, messages, closes}
+use Rattle.plain.specs.Clock.{pass}
+use Rattle.plain.specs.Plain.{World, started, messages, closes}
 
 -- a message at its slot
 abbrev pub here : ℕ → Message → Slotted

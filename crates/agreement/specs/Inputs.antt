@@ -7,7 +7,7 @@ use Rattle.orders.specs.Results.{Batch, batches}
 use Rattle.controller.specs.Plan.{State, orders}
 use Rattle.controller.specs.Bound.{mostTicks}
 use Rattle.board.specs.Desk.{Outcome, busNumber}
-use Rattle.bus.specs.Wires.{Bus, Ran, run}
+use Rattle.wires.specs.Wires.{Bus, Ran, run}
 use Rattle.bus.specs.Run.{start}
 use Rattle.reading.specs.Read.{plainRun}
 

@@ -12,7 +12,7 @@ use Rattle.controller.specs.Plan.{orders}
 use Rattle.controller.specs.Bound.{mostTicks}
 use Rattle.symbols.specs.declared.Fault.the-variants.{Clear}
 use Rattle.symbols.specs.declared.Phase.the-variants.{Over}
-use Rattle.bus.specs.Wires.{linesOn, after, run}
+use Rattle.wires.specs.Wires.{linesOn, after, run}
 use Rattle.agreement.specs.Inputs.{Input, listed, batched, begin, whole, answer}
 
 -- the outcome at each transaction's place is 0

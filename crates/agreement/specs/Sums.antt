@@ -6,7 +6,7 @@ use lib.Dec.{eqb}
 use lib.ListN.{getD, drop}
 use Rattle.orders.specs.Kinds.{isCritical}
 use Rattle.orders.specs.Results.{Slotted, Batch}
-use Rattle.bus.specs.Holding.{firstHold, laterHolds}
+use Rattle.wires.specs.Holding.{firstHold, laterHolds}
 
 -- m messages and L bytes, addresses counted
 pub record Sum : Type 0 where

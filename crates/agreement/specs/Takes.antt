@@ -9,7 +9,7 @@ use Rattle.orders.specs.Results.{Batch, areaOf, batches}
 use Rattle.orders.specs.Marks.{Log}
 use Rattle.symbols.specs.Ticks.{begun}
 use Rattle.controller.specs.Plan.{State, opens, orders}
-use Rattle.bus.specs.Wires.{Bus, after}
+use Rattle.wires.specs.Wires.{Bus, after}
 use Rattle.agreement.specs.Course.{batchAt, sizeOf}
 use Rattle.agreement.specs.Sums.{Sum, sumIn, clockedIn, ticksOf, ticksAll, clockedAll}
 

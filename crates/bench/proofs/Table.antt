@@ -6,7 +6,7 @@ use lib.Count.{ones}
 use lib.ListN.{length, replicate}
 use Rattle.bench.specs.Sheet.{Case, memory, changed, stateOf, sheet}
 use Rattle.lines.specs.Levels.{bitAt, mostHeld}
-use Rattle.lines.specs.Records.{over, allWithin}
+use Rattle.lent.specs.Areas.{over, allWithin}
 use Rattle.orders.specs.Kinds.{mostBytes, mostMessages, mostLength, isWrite, isCritical, kindRight, addressRight, countRight, lengthRight, dataOf, askedOf, quotaOf, follow, remain}
 use Rattle.orders.specs.Form.{messageAt, parse, parsed, transactionsOf}
 use Rattle.orders.specs.Results.{slotsOfAll, areaOf, blankArea, startArea, slotted, batches, checkOf}
@@ -20,10 +20,10 @@ use Rattle.eeprom.specs.Stages.{due, hears, sdaOf, bodyTick}
 use Rattle.eeprom.specs.States.{mostBusy}
 use Rattle.board.specs.Marks.{bodiesFrom, memories, stateRow}
 use Rattle.board.specs.Desk.{Outcome, statesRight, boardNumber, busNumber}
-use Rattle.bus.specs.Wires.{allUp, tick, run}
+use Rattle.wires.specs.Wires.{allUp, tick, run}
 use Rattle.bus.specs.Run.{wireRun}
-use Rattle.reading.specs.Clock.{symbol, symbols, pass}
-use Rattle.reading.specs.Plain.{writesAll, readsAll, messages, transactions}
+use Rattle.plain.specs.Clock.{symbol, symbols, pass}
+use Rattle.plain.specs.Plain.{writesAll, readsAll, messages, transactions}
 use Rattle.reading.specs.Read.{plain, plainRun}
 
 -- two bytes more than R are lent, and stay

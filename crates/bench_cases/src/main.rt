@@ -3,9 +3,9 @@
 use io::print_decimal;
 use io::print_hex;
 use io::write_all;
+use lent::Answer;
+use lent::byte_at;
 use libc::STDOUT_FILENO;
-use lines::Answer;
-use lines::byte_at;
 use orders::Checked;
 use orders::check;
 

@@ -11,7 +11,8 @@ use lib.Count.{ones}
 use lib.Dec.{eqb, ltb, leb}
 use lib.ListN.{length}
 use Rattle.lines.specs.Levels.{bitAt, mostHeld}
-use Rattle.lines.specs.Records.{no, _then_, allWithin}
+use Rattle.lent.specs.Refusals.{no, _then_}
+use Rattle.lent.specs.Areas.{allWithin}
 use Rattle.store.specs.Pages.{geometryOf}
 use Rattle.eeprom.specs.Stages.{Body}
 use Rattle.eeprom.specs.States.{mostBusy, wordAt}

@@ -7,9 +7,9 @@ use mathlib.Core.Path.{_≡_, refl, ap, ap₂, sym, _∙_}
 use mathlib.Core.List.{List, [], _∷_, _++_, append-assoc, map}
 use lib.ListN.{length, getD, take, drop, length-append, length-drop}
 use lib.Seq.{drop-cons, take-at, length-take-le, take-all}
-use Rattle.lines.specs.Records.{over}
+use Rattle.lent.specs.Areas.{over}
 use Rattle.eeprom.specs.States.{wordBytes}
-use Rattle.lines.proofs.Records.{over-whole}
+use Rattle.lent.proofs.Rows.{over-whole}
 use Rattle.board.specs.Marks.{stateRow}
 use Rattle.board.specs.Seats.{Seated, sizeOf, seated, bodyOf, seatBytes, seatRow}
 use Rattle.board.specs.declared.Seat.{Seat}

@@ -1,7 +1,7 @@
 -- Two plans whose controllers are alike in every tick, whatever the lines, drive the bus alike: same lines, same chips, and controllers that are alike
 -- at the end. Assumes nothing.
 use Prim.Native.Nat.{ℕ, zero, suc}
-use mathlib.Core.Path.{_≡_, refl, ap, ap₂, sym, _∙_, subst}
+use mathlib.Core.Path.{_≡_, refl, ap, ap₂, _∙_, subst}
 use mathlib.Core.Bool.{Bool, true, false, cond}
 use mathlib.Core.List.{List, [], _∷_, map}
 use native.Mathlib.Omega.{arith}
@@ -11,10 +11,9 @@ use Rattle.lines.specs.declared.Lines.{Lines}
 use Rattle.lines.specs.declared.Eye.{Eye}
 use Rattle.symbols.specs.Symbols.{drives, isOver}
 use Rattle.symbols.specs.Ticks.{Plan, Control, controlTick}
-use Rattle.symbols.specs.declared.Phase.{Phase}
 use Rattle.eeprom.specs.Stages.{Body, bodyTick}
-use Rattle.bus.specs.Holding.{Holding, holdTick}
-use Rattle.bus.specs.Wires.{Bus, joined, allUp, linesOn, tick, Ran, oneMore, run}
+use Rattle.wires.specs.Holding.{Holding, holdTick}
+use Rattle.wires.specs.Wires.{Bus, joined, allUp, linesOn, tick, Ran, oneMore, run}
 
 module _ (Q R : Plan) (asked : ℕ) (Alike : Control (Q .State) → Control (R .State) → Type 0)
     (phases : (c : Control (Q .State)) (d : Control (R .State)) → Alike c d → c .phase ≡ d .phase)

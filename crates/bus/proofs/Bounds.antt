@@ -2,13 +2,13 @@
 -- Assumes nothing.
 use Prim.Native.Nat.{ℕ, zero, suc, _+_, _-_, _*_, _≤_, _<_}
 use native.Mathlib.Omega.{arith}
-use mathlib.Core.Path.{_≡_, refl, ap, sym, _∙_}
+use mathlib.Core.Path.{_≡_, refl, ap, _∙_}
 use mathlib.Core.Bool.{Bool, true, false, cond}
-use mathlib.Core.List.{List, [], _∷_}
-use lib.ListN.{length, getD}
+use mathlib.Core.List.{List}
+use lib.ListN.{length}
 use Rattle.lines.specs.Levels.{mostHeld}
-use Rattle.orders.specs.Kinds.{isWrite, lengthRight, dataOf, askedOf}
-use Rattle.orders.specs.Form.{Message, Transaction, whole, messageAt, waitAt, transactionsOf}
+use Rattle.orders.specs.Kinds.{isWrite, lengthRight, dataOf}
+use Rattle.orders.specs.Form.{Message, Transaction, whole, messageAt, transactionsOf}
 use Rattle.orders.specs.Bytes.{Bytes}
 use Rattle.orders.specs.Results.{checkOf}
 use Rattle.orders.specs.Places.{Stands, ended, begins, follows}
@@ -22,8 +22,8 @@ use Rattle.controller.specs.Plan.{State, orders}
 use Rattle.controller.specs.Bound.{bytesOf, clockedOf, mostTicks}
 use Rattle.controller.proofs.Bound.{leftOf, falls}
 use Rattle.symbols.proofs.Moves.{stays}
-use Rattle.bus.specs.Wires.{Bus, linesOn, tick, after}
-use Rattle.bus.specs.Inside.{limit}
+use Rattle.wires.specs.Wires.{Bus, linesOn, tick, after}
+use Rattle.wires.specs.Inside.{limit}
 
 module _ (asked : ℕ) where
   over-stays : (n : ℕ) (b : Bus State) → isOver (b .control .phase) ≡ true → isOver (after orders asked n b .control .phase) ≡ true

@@ -1,22 +1,23 @@
 -- The entry: the code's run over places is the rules' run over transactions, and what it leaves in the lent areas is what `wireRun` says; the ladder of
 -- refusals. Assumes nothing.
-use Prim.Native.Nat.{ℕ, zero, suc, _+_, _-_, _*_, _≤_, _<_}
+use Prim.Native.Nat.{ℕ, zero, suc, _*_, _≤_, _<_}
 use native.Mathlib.Omega.{arith}
-use mathlib.Core.Path.{_≡_, refl, ap, ap₂, sym, _∙_, subst}
-use mathlib.Core.Bool.{Bool, true, false, not, _&&_, cond}
-use mathlib.Core.List.{List, [], _∷_, map}
-use borrow.Author.Tests.{lt-ltb, le-ltb, ne-eqb, eqb-true}
+use mathlib.Core.Path.{_≡_, refl, ap, sym, _∙_, subst}
+use mathlib.Core.Bool.{true}
+use mathlib.Core.List.{List, map}
+use borrow.Author.Tests.{lt-ltb, le-ltb, ne-eqb}
 use lib.Count.{ones}
-use lib.Dec.{eqb, ltb}
+use lib.Dec.{ltb}
 use lib.ListN.{length, getD, take}
 use Rattle.lines.specs.Events.{opened}
-use Rattle.lines.specs.Records.{over, no, _then_}
+use Rattle.lent.specs.Areas.{over}
+use Rattle.lent.specs.Refusals.{no, _then_}
 use Rattle.lines.specs.declared.Lines.{Lines}
 use Rattle.lines.specs.declared.Eye.{Eye}
 use Rattle.orders.specs.Kinds.{mostBytes}
 use Rattle.orders.specs.Form.{transactionsOf}
 use Rattle.orders.specs.Bytes.{Bytes}
-use Rattle.orders.specs.Results.{areaOf, batches, checkOf, listNumber, startArea}
+use Rattle.orders.specs.Results.{areaOf, batches, checkOf, startArea}
 use Rattle.orders.specs.Marks.{Log}
 use Rattle.orders.specs.Start.{startedOf}
 use Rattle.orders.specs.declared.Break.{Break}
@@ -24,8 +25,7 @@ use Rattle.orders.specs.declared.Checked.{Checked}
 use Rattle.orders.specs.declared.Checked.the-variants.{Accepted, TooLong, Broken}
 use Rattle.orders.proofs.Stands.{holds}
 use Rattle.orders.proofs.Starts.{starts}
-use Rattle.symbols.specs.Symbols.{isOver}
-use Rattle.symbols.specs.Ticks.{Control, begun, controlTick}
+use Rattle.symbols.specs.Ticks.{Control, controlTick}
 use Rattle.controller.specs.Plan.{State, orders, opens}
 use Rattle.controller.specs.Bound.{mostTicks}
 use Rattle.controller.specs.Cursor.{Spot, places, opensAt, controlOf, firstOf}
@@ -34,23 +34,22 @@ use Rattle.controller.specs.declared.Controller.{Controller}
 use Rattle.controller.proofs.Matches.{Matches, begun-matches, tick-matches}
 use Rattle.controller.proofs.Simulation.{Same, asks-same, nexts-same, fails-same, starts-same}
 use Rattle.controller.proofs.Bound.{first-left}
-use Rattle.eeprom.specs.Stages.{Body}
-use Rattle.board.specs.Marks.{chipCount, memoryAt, bodies, memories, stateRow}
-use Rattle.board.specs.Desk.{Outcome, boardNumber, busNumber, ran, refusal}
-use Rattle.board.specs.Seats.{Seated, seated, offset, bodyOf, allUp, seatsFrom, seatRow}
-use Rattle.lines.specs.declared.Answer.{Answer}
+use Rattle.board.specs.Marks.{memories, stateRow}
+use Rattle.board.specs.Desk.{boardNumber, busNumber}
+use Rattle.board.specs.Seats.{seated, offset, bodyOf, allUp, seatsFrom, seatRow}
 use Rattle.board.specs.declared.Seat.{Seat}
 use Rattle.board.proofs.Loading.{loaded-is, loaded-fits, loaded-up}
 use Rattle.board.proofs.Places.{few as few-chips}
 use Rattle.board.proofs.Range.{board-lengths}
 use Rattle.board.proofs.Saving.{seat-row}
 use Rattle.board.proofs.Seated.{all-together}
-use Rattle.bus.specs.Wires as Wires
-use Rattle.bus.specs.Wires.{Ran, after, run}
+use Rattle.wires.specs.Wires as Wires
+use Rattle.wires.specs.Wires.{Ran, after, run}
 use Rattle.bus.specs.Run.{Traced, traced, start, wireRun}
-use Rattle.bus.specs.Inside.{busOn, limit, Went, Fine}
-use Rattle.bus.specs.declared.Bus.{Bus}
-use Rattle.bus.proofs.Runs.{run-enough}
+use Rattle.wires.specs.Inside.{busOn, limit, Went}
+use Rattle.bus.specs.Inside.{Fine}
+use Rattle.wires.specs.declared.Bus.{Bus}
+use Rattle.wires.proofs.Runs.{run-enough}
 use Rattle.bus.proofs.Alike as alike
 use Rattle.bus.proofs.Bounds.{over-in-time, most-within}
 

@@ -1,4 +1,2 @@
-pub mod Holding
-pub mod Wires
 pub mod Run
 pub mod Inside

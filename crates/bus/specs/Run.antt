@@ -1,19 +1,19 @@
 -- The entry "whole-bus run": what comes out, all of it, by the tick rules (paper 01, "Ticks and symbols", "When the desk says no"). Assumes nothing.
 use Prim.Native.Nat.{ℕ}
-use mathlib.Core.Bool.{Bool, cond}
+use mathlib.Core.Bool.{cond}
 use mathlib.Core.List.{List}
 use lib.Dec.{eqb}
 use lib.ListN.{length}
 use Rattle.lines.specs.Events.{opened}
-use Rattle.lines.specs.Records.{over}
+use Rattle.lent.specs.Areas.{over}
 use Rattle.orders.specs.Form.{transactionsOf}
 use Rattle.controller.specs.Plan.{State, orders}
 use Rattle.controller.specs.Bound.{mostTicks}
 use Rattle.controller.specs.Alone.{atFirst}
 use Rattle.board.specs.Marks.{bodies}
 use Rattle.board.specs.Desk.{Outcome, busNumber, ran, refusal}
-use Rattle.lines.specs.declared.Answer.{Answer}
-use Rattle.bus.specs.Wires.{Bus, Ran, run}
+use Rattle.lent.specs.declared.Answer.{Answer}
+use Rattle.wires.specs.Wires.{Bus, Ran, run}
 
 -- before the first tick
 abbrev pub start : (list : List ℕ) → (marks : ℕ) → (memory states holds results : List ℕ) → Bus State

@@ -6,7 +6,7 @@ use mathlib.Core.List.{List}
 use native.Mathlib.Omega.{arith}
 use borrow.Author.Tests.{lt-ltb, le-ltb, ne-eqb}
 use lib.ListN.{length}
-use Rattle.lines.specs.Records.{over, allWithin}
+use Rattle.lent.specs.Areas.{over, allWithin}
 use Rattle.orders.specs.Form.{transactionsOf}
 use Rattle.orders.specs.Results.{startArea, batches, checkOf}
 use Rattle.orders.specs.Marks.{Log}

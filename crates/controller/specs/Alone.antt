@@ -4,7 +4,9 @@ use mathlib.Core.Bool.{cond}
 use mathlib.Core.List.{List}
 use lib.Dec.{eqb, ltb}
 use lib.ListN.{length}
-use Rattle.lines.specs.Records.{Party, walk, drivesOn, over, no, _then_, badSample}
+use Rattle.lines.specs.Records.{Party, walk, drivesOn, badSample}
+use Rattle.lent.specs.Areas.{over}
+use Rattle.lent.specs.Refusals.{no, _then_}
 use Rattle.orders.specs.Form.{transactionsOf}
 use Rattle.orders.specs.Results.{areaOf, startArea, batches, checkOf, listNumber}
 use Rattle.symbols.specs.Symbols.{drives, isOver}

@@ -3,8 +3,8 @@
 // A run is told as its end (L the list's, F a fault, R the record's, N refused), its ticks, and an outcome or another byte that the case is about.
 use controller::End;
 use controller::Told;
-use lines::byte_at;
-use lines::put_at;
+use lent::byte_at;
+use lent::put_at;
 
 // The level at a tick of a record that is written in digits; past its end 1,1.
 fn level(record: &[u8], t: usize) -> u8 {

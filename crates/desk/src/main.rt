@@ -5,9 +5,9 @@ use io::print_decimal;
 use io::print_hex;
 use io::read_full;
 use io::write_all;
+use lent::byte_at;
 use libc::STDIN_FILENO;
 use libc::STDOUT_FILENO;
-use lines::byte_at;
 use orders::Checked;
 use orders::check;
 

@@ -3,12 +3,12 @@ ghost use mathlib.Core.Path.{_≡_};
 ghost use mathlib.Core.Bool.{_&&_};
 ghost use mathlib.Core.List.{[]};
 ghost use lib.Dec.{ltb, leb};
-ghost use Rattle.lines.specs.Records.{over};
+ghost use Rattle.lent.specs.Areas.{over};
 ghost use Rattle.store.specs.Pages.{geometryOf};
 ghost use Rattle.eeprom.specs.States.{mostBusy, wordAt, wordBytes};
 use crate::MOST_BUSY;
-use lines::byte_at;
-use lines::put_at;
+use lent::byte_at;
+use lent::put_at;
 use store::Model;
 
 // The number in two bytes, low byte first.

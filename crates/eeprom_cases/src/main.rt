@@ -11,7 +11,7 @@
 mod report;
 mod spelling;
 
-use lines::byte_at;
+use lent::byte_at;
 use spelling::Case;
 use spelling::Script;
 use spelling::Tape;

@@ -1,7 +1,7 @@
 // What came out of a run, in words.
 use eeprom::word_at;
-use lines::Answer;
-use lines::byte_at;
+use lent::Answer;
+use lent::byte_at;
 
 // The byte at each place of the memory before a run.
 fn first_byte(i: usize) -> u8 {

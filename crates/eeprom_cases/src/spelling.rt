@@ -1,7 +1,7 @@
 // From the commands of a line to a record of samples, by the table of symbols.
+use lent::put_at;
 use lines::Lines;
 use lines::bit_at;
-use lines::put_at;
 
 // The record so far, and the lines of its last tick.
 pub struct Tape {

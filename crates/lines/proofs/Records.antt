@@ -1,62 +1,18 @@
--- A loop over a record of samples against the fold that the rules have: what is left to do from a tick on, for any party alone; and what
--- number 0 says of the refusals. Assumes nothing.
-use Prim.Native.Nat.{ℕ, zero, suc, _+_, _<_, _≤_}
+-- A loop over a record of samples against the fold that the rules have: what is left to do from a tick on, for any party alone. Assumes nothing.
+use Prim.Native.Nat.{ℕ, suc, _+_, _<_, _≤_}
 use mathlib.Core.Path.{_≡_, refl, ap, sym, _∙_}
-use mathlib.Core.Bool.{Bool, true, false}
-use mathlib.Core.List.{List, [], _∷_, _++_}
+use mathlib.Core.Bool.{true, false}
+use mathlib.Core.List.{List, [], _∷_}
 use native.Mathlib.Omega.{arith}
-use native.Mathlib.Nat.{zero-add, add-zero, suc-inj}
+use native.Mathlib.Nat.{zero-add, add-zero}
 use native.Mathlib.Numerals.{add-one}
-use lib.ListN.{length, getD, set, take, drop, take-append-drop, drop-of-length-le}
+use lib.ListN.{length, getD, set, drop, drop-of-length-le}
 use lib.Seq.{drop-cons}
 use Rattle.lines.specs.Levels.{byteOf, linesOf}
-use Rattle.lines.specs.Records.{Party, walk, drivesOn, over, no, _then_}
+use Rattle.lines.specs.Records.{Party, walk, drivesOn}
+use Rattle.lent.specs.Areas.{over}
 use Rattle.lines.specs.declared.Lines.{Lines}
-
--- a row written over what was lent, from place i on
-unfoldable pub overFrom : ℕ → List ℕ → List ℕ → List ℕ
-overFrom i row lent = take i lent ++ over row (drop i lent)
-
-over-none : (row : List ℕ) → over row [] ≡ []
-unfolding over
-over-none [] = refl
-over-none (x ∷ row) = refl
-
-none-over : (lent : List ℕ) → over [] lent ≡ lent
-unfolding over
-none-over [] = refl
-none-over (x ∷ lent) = refl
-
--- a row is written byte by byte
-pub one-byte : (i x : ℕ) (row lent : List ℕ) → overFrom (suc i) row (set lent i x) ≡ overFrom i (x ∷ row) lent
-unfolding overFrom over
-one-byte zero x row [] = over-none row
-one-byte zero x row (y ∷ lent) = refl
-one-byte (suc i) x row [] = over-none row
-one-byte (suc i) x row (y ∷ lent) = ap (λ (l : List ℕ). y ∷ l) (one-byte i x row lent)
-
-pub all-bytes : (i : ℕ) (lent : List ℕ) → overFrom i [] lent ≡ lent
-unfolding overFrom
-all-bytes i lent = rw (none-over (drop i lent)) (take-append-drop i lent)
-
-pub from-front : (row lent : List ℕ) → overFrom 0 row lent ≡ over row lent
-unfolding overFrom
-from-front row lent = refl
-
-pub length-over : (row lent : List ℕ) → length (over row lent) ≡ length lent
-unfolding over
-length-over [] [] = refl
-length-over [] (y ∷ lent) = refl
-length-over (x ∷ row) [] = refl
-length-over (x ∷ row) (y ∷ lent) = ap suc (length-over row lent)
-
--- a row as long as what was lent takes its place
-pub over-whole : (row lent : List ℕ) → length row ≡ length lent → over row lent ≡ row
-unfolding over
-over-whole [] [] h = refl
-over-whole [] (y ∷ lent) h = absurd (omega arith)
-over-whole (x ∷ row) [] h = absurd (omega arith)
-over-whole (x ∷ row) (y ∷ lent) h = ap (λ (l : List ℕ). x ∷ l) (over-whole row lent (suc-inj h))
+use Rattle.lent.proofs.Rows.{overFrom, one-byte, all-bytes, from-front}
 
 module _ (P : Party) where
   -- everything that a party alone leaves
@@ -121,16 +77,3 @@ module _ (P : Party) where
     pub ended-early : (i : ℕ) (xs d : List ℕ) → leaves i xs s d ≡ record { last = s; drives = d; ticks = i }
     unfolding leaves
     ended-early i xs d = rw (walks-no-more (drop i xs), drives-no-more (drop i xs), all-bytes i d, add-zero i)
-
--- of several refusals the first counts
-pub none-first : (m n : ℕ) → (m then n) ≡ 0 → m ≡ 0
-none-first zero n h = refl
-none-first (suc m) n h = h
-
-pub none-later : (m n : ℕ) → (m then n) ≡ 0 → n ≡ 0
-none-later zero n h = h
-none-later (suc m) n h = absurd (omega arith)
-
-pub not-said : (n : ℕ) (b : Bool) → no (suc n) b ≡ 0 → b ≡ false
-not-said n true h = absurd (omega arith)
-not-said n false h = refl

@@ -1,9 +1,7 @@
 // The two wires: their levels in a tick, the byte that stands for them, and what two neighbouring ticks of them say.
 ghost use mathlib.Core.Path.{_≡_};
-ghost use lib.ListN.{getD, set};
 ghost use Rattle.lines.specs.Levels.{released, bitAt, shifted, byteOf, linesOf};
 ghost use Rattle.lines.specs.Events.{delivered, note, eventOf, eyeAfter, opened, isQuiet};
-ghost use Rattle.lines.specs.Records.{allWithin};
 
 // The most ticks for which SCL may be held low in a symbol.
 pub const MOST_HELD: u8 = 16;
@@ -32,12 +30,6 @@ pub enum Event {
     Started,
     Stopped,
     Bit(bool),
-}
-
-// What an entry says: 0 and its ticks, or the number of the refusal and none.
-pub struct Answer {
-    pub number: u8,
-    pub ticks: usize,
 }
 
 impl Lines {
@@ -186,34 +178,4 @@ impl Eye {
             noted: next,
         }
     }
-}
-
-// The byte at a place, and 0 past the end.
-pub fn byte_at(s: &[u8], at: usize) -> u8
-    ensures { λ r. ⌜ r ≡ getD (now (s .entry)) at 0 ⌝ }
-{
-    if at < s.len() { s[at] } else { 0 }
-}
-
-// A store that does nothing past the end.
-pub fn put_at(s: &mut [u8], at: usize, x: u8)
-    ensures { λ _. ⌜ now (s .exit) ≡ set (now (s .entry)) at x ⌝ }
-{
-    if at < s.len() {
-        s[at] = x;
-    }
-}
-
-// No byte is over the most.
-pub fn all_within(most: u8, s: &[u8]) -> bool
-    ensures { λ r. ⌜ r ≡ allWithin most (now (s .entry)) ⌝ }
-{
-    let mut i = 0;
-    while i < s.len() {
-        if most < s[i] {
-            return false;
-        }
-        i += 1;
-    }
-    true
 }

@@ -9,7 +9,9 @@ use lib.Dec.{eqb, ltb, leb}
 use lib.ListN.{length, getD, set}
 use Rattle.lines.specs.Levels.{hi, _∥_, byteOf, linesOf}
 use Rattle.lines.specs.Events.{eventOf, eyeAfter, opened}
-use Rattle.lines.specs.Records.{walk, drivesOn, over, no, _then_, allWithin, badSample}
+use Rattle.lines.specs.Records.{walk, drivesOn, badSample}
+use Rattle.lent.specs.Areas.{over, allWithin}
+use Rattle.lent.specs.Refusals.{no, _then_}
 use Rattle.lines.specs.declared.Lines.{Lines}
 use Rattle.lines.specs.declared.Eye.{Eye}
 use Rattle.lines.specs.declared.Event.{Event}
@@ -21,7 +23,9 @@ use Rattle.eeprom.specs.declared.Chip.{Chip}
 use Rattle.lone_chip.specs.declared.Watch.{Watch}
 use Rattle.store.specs.declared.Model.{Model}
 use Rattle.store.specs.declared.Model.the-variants.{Large}
-use Rattle.lines.proofs.Records.{Left, leaves, one-tick, over-whole, none-first, none-later, not-said}
+use Rattle.lines.proofs.Records.{Left, leaves, one-tick}
+use Rattle.lent.proofs.Rows.{over-whole}
+use Rattle.lent.proofs.Refusals.{none-first, none-later, not-said}
 
 -- the refusals, each after those before it were passed
 module _ (strap asked : ℕ) (memory state samples drives : List ℕ) where

@@ -3,7 +3,8 @@ ghost use mathlib.Core.Path.{_≡_};
 ghost use mathlib.Core.List.{List};
 ghost use Prim.Native.Nat.{ℕ};
 ghost use Rattle.lines.specs.Levels.{hi, _∥_};
-ghost use Rattle.lines.specs.Records.{walk, drivesOn, over};
+ghost use Rattle.lines.specs.Records.{walk, drivesOn};
+ghost use Rattle.lent.specs.Areas.{over};
 ghost use Rattle.eeprom.specs.Stages.{sdaOf};
 ghost use Rattle.eeprom.specs.States.{bodyAt};
 ghost use Rattle.lone_chip.specs.Alone.{watchOf, restOf, chip, chipNumber, leftBy, chipAlone};
@@ -12,11 +13,11 @@ use eeprom::MOST_BUSY;
 use eeprom::put_state;
 use eeprom::state_right;
 use eeprom::word_at;
-use lines::Answer;
+use lent::Answer;
+use lent::all_within;
+use lent::put_at;
 use lines::Eye;
 use lines::Lines;
-use lines::all_within;
-use lines::put_at;
 use store::Model;
 
 // A chip alone with the lines: what it saw last, and its busy ticks left.

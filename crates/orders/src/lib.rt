@@ -1,13 +1,15 @@
 // The order list: which form it has, how large its result area is, and what stands at a place of it.
 ghost use mathlib.Core.Path.{_≡_};
 ghost use Prim.Native.Nat.{suc, _+_, _-_, _*_, _<_, _≤_};
-ghost use lib.ListN.{length, getD, set};
+ghost use lib.ListN.{length};
 ghost use Rattle.orders.specs.Kinds.{mostBytes, isWrite, isCritical, kindRight, addressRight, countRight, lengthRight, dataOf, askedOf, quotaOf, follow, remain};
 ghost use Rattle.orders.specs.Form.{breaks, messageAt};
 ghost use Rattle.orders.specs.Results.{checkOf, listNumber};
 ghost use Rattle.orders.specs.Check.{foundAs, Tells};
 ghost use Rattle.orders.specs.Places.{sizeAt, roomAt};
 ghost use Rattle.orders.specs.Start.{zeroed, outcomesFrom, startedOf};
+use lent::byte_at;
+use lent::put_at;
 
 // The most that a list has in bytes, a transaction in messages, a message in bytes written or asked for.
 pub const MOST_BYTES: usize = 4096;
@@ -244,22 +246,6 @@ pub fn check(list: &[u8]) -> Checked
 }
 
 // ---- what stands at a place
-
-// The byte at a place, 0 past the list's end.
-pub fn byte_at(list: &[u8], at: usize) -> u8
-    ensures { λ r. ⌜ r ≡ getD (now (list .entry)) at 0 ⌝ }
-{
-    if at < list.len() { list[at] } else { 0 }
-}
-
-// A store that does nothing past the area's end.
-pub fn put_at(area: &mut [u8], at: usize, v: u8)
-    ensures { λ _. ⌜ now (area .exit) ≡ set (now (area .entry)) at v ⌝ }
-{
-    if at < area.len() {
-        area[at] = v;
-    }
-}
 
 // The bytes that the message here takes in the list.
 pub fn size_at(list: &[u8], at: u32) -> usize

@@ -1,5 +1,5 @@
 -- The whole entry: refusals in their order, the board as it is loaded, and what is handed back. Assumes nothing.
-use Prim.Native.Nat.{ℕ, zero, suc, _+_, _-_, _*_, _<_, _≤_}
+use Prim.Native.Nat.{ℕ, zero, suc, _*_, _<_, _≤_}
 use native.Mathlib.Nat.{sub-zero}
 use native.Mathlib.Omega.{arith}
 use mathlib.Core.Path.{_≡_, refl, ap, ap₂, sym, _∙_}
@@ -10,7 +10,8 @@ use lib.Count.{ones}
 use lib.Dec.{eqb, ltb}
 use lib.ListN.{length, take}
 use Rattle.lines.specs.Levels.{mostHeld}
-use Rattle.lines.specs.Records.{no, _then_, allWithin}
+use Rattle.lent.specs.Refusals.{no, _then_}
+use Rattle.lent.specs.Areas.{allWithin}
 use Rattle.orders.specs.Form.{transactionsOf}
 use Rattle.orders.specs.Kinds.{mostBytes}
 use Rattle.orders.specs.Results.{startArea, checkOf}
@@ -25,19 +26,20 @@ use Rattle.board.specs.Marks.{memoryAt, bodies, memories, stateRow}
 use Rattle.board.specs.Desk.{Outcome, statesRight, boardNumber, busNumber}
 use Rattle.board.specs.Seats.{Seated, seated, offset, seatsFrom, seatRow}
 use Rattle.board.specs.Seats as seats
-use Rattle.lines.specs.declared.Answer.{Answer}
+use Rattle.lent.specs.declared.Answer.{Answer}
 use Rattle.board.specs.declared.Seat.{Seat}
 use Rattle.board.proofs.Loading.{loaded-is, loaded-fits}
 use Rattle.board.proofs.Seated.{all-together}
 use Rattle.board.proofs.Saving.{seat-row}
-use Rattle.reading.specs.Plain.{Cell, World, transactions}
+use Rattle.plain.specs.Plain.{Cell, World, transactions}
 use Rattle.reading.specs.Read.{cellOf, bodyOf, plain, plainRun}
-use Rattle.reading.specs.Inside.{far, timeOf, cellOn, cellsOf, worldOf, Sound, Comes}
-use Rattle.reading.specs.Along.{batchesAt}
-use Rattle.reading.specs.declared.run.Run.{Run}
-use Rattle.reading.proofs.Listed.{listed}
-use Rattle.reading.proofs.Cells.{cells-length}
-use Rattle.reading.proofs.Counting.{transactions-count}
+use Rattle.plain.specs.Inside.{far, timeOf, cellOn, cellsOf}
+use Rattle.messages.specs.Inside.{worldOf, Sound, Comes}
+use Rattle.messages.specs.Along.{batchesAt}
+use Rattle.messages.specs.declared.Run.{Run}
+use Rattle.messages.proofs.Listed.{listed}
+use Rattle.plain.proofs.Cells.{cells-length}
+use Rattle.plain.proofs.Counting.{transactions-count}
 
 -- chips as they come and go
 

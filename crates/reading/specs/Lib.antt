@@ -1,5 +1,1 @@
-pub mod Clock
-pub mod Plain
 pub mod Read
-pub mod Inside
-pub mod Along

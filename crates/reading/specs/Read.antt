@@ -1,6 +1,6 @@
 -- The entry "plain reading": its refusals, and all that comes out (paper 01, "When the desk says no"). Assumes nothing.
 use Prim.Native.Nat.{ℕ, _-_}
-use mathlib.Core.Bool.{Bool, cond}
+use mathlib.Core.Bool.{cond}
 use mathlib.Core.List.{List, map}
 use lib.Dec.{eqb}
 use Rattle.orders.specs.Form.{transactionsOf}
@@ -9,7 +9,7 @@ use Rattle.eeprom.specs.Stages.{Body}
 use Rattle.eeprom.specs.declared.Stage.the-variants.{Deaf}
 use Rattle.board.specs.Marks.{bodies}
 use Rattle.board.specs.Desk.{Outcome, busNumber, ran, refusal}
-use Rattle.reading.specs.Plain.{Cell, World, transactions}
+use Rattle.plain.specs.Plain.{Cell, World, transactions}
 
 -- busy ticks left, and the tick from which a chip is free
 abbrev pub cellOf : Body → Cell

@@ -1,22 +1,17 @@
-// The plain reading of a list: no wires, and no ticks but their count.
-mod chips;
-mod places;
-mod run;
-mod time;
-
+// The entry "plain reading": a list without wires, and no ticks but their count.
 ghost use mathlib.Core.Path.{_≡_};
 ghost use Rattle.board.specs.Desk.{Outcome};
 ghost use Rattle.reading.specs.Read.{plainRun};
-use crate::run::Run;
-use crate::time::Time;
 use board::board_number;
 use board::chip_count;
 use board::load;
 use board::save;
-use lines::Answer;
+use lent::Answer;
+use messages::Run;
 use orders::Checked;
 use orders::check;
 use orders::start;
+use plain::Time;
 
 fn refused(number: u8) -> Answer
     ensures { λ r. ⌜ r ≡ record { number = number; ticks = 0 } ⌝ }

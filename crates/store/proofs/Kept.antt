@@ -10,7 +10,7 @@ use borrow.Author.Tests.{le-leb, leb-true, ltb-true}
 use lib.Dec.{ltb, leb}
 use lib.ListN.{length, getD, set, length-set}
 use lib.Seq.{getD-set-same, getD-set-other}
-use Rattle.lines.specs.Records.{allWithin}
+use Rattle.lent.specs.Areas.{allWithin}
 use Rattle.store.specs.Pages.{geometryOf, pageStart, pageStep}
 use Rattle.store.specs.Keeping.{Kept, geo, blankLatch, takesAt, takes, byteNow, steps, starts, storeOne, stored, stops, withStore, keptAt}
 use Rattle.store.specs.declared.Model.{Model}

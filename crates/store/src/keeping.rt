@@ -6,8 +6,8 @@ ghost use Rattle.store.specs.Pages.{Shape, geometryOf, pageStart, pageSt
 ghost use Rattle.store.specs.Keeping.{geo, keptOf, takesAt, byteNow, stepped, emptied, storeOne, stored, stops, keptAt};
 use crate::Model;
 use crate::Store;
-use lines::byte_at;
-use lines::put_at;
+use lent::byte_at;
+use lent::put_at;
 
 impl Model {
     // Bytes in all.

@@ -6,7 +6,9 @@ use std::fs;
 use std::path::Path;
 use std::process::{exit, Command};
 
-const RULES: [&str; 10] = ["lines", "orders", "symbols", "controller", "store", "eeprom", "lone_chip", "board", "bus", "reading"];
+const RULES: [&str; 14] = [
+    "lent", "lines", "orders", "symbols", "controller", "store", "eeprom", "lone_chip", "board", "wires", "bus", "plain", "messages", "reading",
+];
 const THEOREMS: [&str; 2] = ["agreement", "bench"];
 
 struct Wrong {
@@ -30,20 +32,20 @@ const TRIED: [Wrong; 5] = [
         name: "busy from the last byte on both sides",
         edits: &[
             ("eeprom/specs/Stages.antt", "cond (due c) asked (n - 1)", "cond (due c) (asked - 4) (n - 1)"),
-            ("reading/specs/Plain.antt", "stores asked (symbol (w .clock) .now)", "stores asked (w .clock .now)"),
+            ("plain/specs/Plain.antt", "stores asked (symbol (w .clock) .now)", "stores asked (w .clock .now)"),
         ],
         proved: &[],
         refused: &["bench"],
     },
     Wrong {
         name: "the plain reading does not count STOP",
-        edits: &[("reading/specs/Plain.antt", "record { clock = symbol (w .clock); cells", "record { clock = w .clock; cells")],
+        edits: &[("plain/specs/Plain.antt", "record { clock = symbol (w .clock); cells", "record { clock = w .clock; cells")],
         proved: &[],
         refused: &["agreement"],
     },
     Wrong {
         name: "the clock holder holds a tick too long",
-        edits: &[("bus/specs/Holding.antt", "suc (firstHold (h .list))", "suc (suc (firstHold (h .list)))")],
+        edits: &[("wires/specs/Holding.antt", "suc (firstHold (h .list))", "suc (suc (firstHold (h .list)))")],
         proved: &[],
         refused: &["agreement"],
     },

@@ -27,4 +27,4 @@ run-spec =
     (λ c. search needs)
     (λ c. search needs)
     (λ c. search needs)
-    (λ c. (c .before .before .before .before .before .before .before .before .wires .ensures)))
+    (λ c. (c .before .before .before .before .before .before .before .before .accepted .ensures)))

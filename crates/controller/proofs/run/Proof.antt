@@ -2,7 +2,7 @@
 use borrow.Author.Needs.{needs}
 use Prim.Native.Nat.{_-_, _≤_}
 use mathlib.Core.Path.{_≡_, refl, _∙_}
-use lib.ListN.{length, drop, length-set}
+use lib.ListN.{length, length-set}
 use Rattle.controller.specs.Cursor.{controlOf, firstOf}
 use Rattle.controller.specs.Running.{ranOn}
 use Rattle.controller.proofs.Record.{onward, run-starts, turn, ends-over, ends-record}
@@ -13,7 +13,7 @@ use Rattle.controller.proofs.run.Lts as lts
 
 abbrev Inv-loop : tie.InvT-loop
 Inv-loop list samples drives₀ results₀ c₀ t₀ drives results c t =
-    (onward list t drives (drop t samples) (controlOf c results) ≡ ranOn list drives₀ samples (controlOf (firstOf list) results₀))
+    (onward list t drives samples (controlOf c results) ≡ ranOn list drives₀ samples (controlOf (firstOf list) results₀))
     × (length samples ≤ length drives) × (length drives ≡ length drives₀) × (length results ≡ length results₀)
 
 abbrev μ-loop : tie.MeasureT-loop
@@ -44,7 +44,7 @@ run-spec =
     let h = c .before .before .before .before .before .before .before .before .before .before .loop-test .taken in
     let k = i .1 in (
       turn _ _ _ _ _ _ _ (i .0) _ _ _ _ _ _ _ (c .before .before .before .before .before .before .before .before .before .is-over .ensures) (c .before .before .before .before .before .before .before .before .if1 .left) (c .before .before .before .before .before .before .before .drive .ensures) (c .before .before .before .before .before .before .byte .ensures) refl
-          (c .before .before .before .before .from-byte .ensures) (c .before .before .tick .ensures) h k,
+          (c .before .before .before .before .from-byte .ensures) (c .before .before .tick .ensures) h,
       search (needs, length-set),
       search (needs, length-set),
       c .before .before .tick .kept .1 .1 .1 .0 ∙ i .3,

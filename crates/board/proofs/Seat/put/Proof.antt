@@ -4,7 +4,7 @@ use mathlib.Core.List.{List}
 use Prim.Native.Nat.{ℕ, _%_}
 use denote.Ref.{now}
 use borrow.Author.Needs.{needs}
-use Rattle.lines.specs.Records.{over}
+use Rattle.lent.specs.Areas.{over}
 use Rattle.board.proofs.Saving.{put-so}
 use Rattle.board.proofs.Seat.put.Statement.{statement}
 use Rattle.board.proofs.Seat.put.Tie as tie

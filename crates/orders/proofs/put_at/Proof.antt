@@ -1,8 +1,0 @@
--- `orders::put_at` meets its contract. Assumes nothing.
-use borrow.Author.Needs.{needs}
-use Rattle.orders.proofs.PlaceLaws.{put-past}
-use Rattle.orders.proofs.put_at.Statement.{statement}
-use Rattle.orders.proofs.put_at.Tie as tie
-
-pub put-at-spec : {M : Type 1} → statement M
-put-at-spec = tie.close (tie.spec (λ c. search needs) (λ c. search needs) (λ c. search needs) (λ c. search put-past))

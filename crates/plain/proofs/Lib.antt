@@ -1,0 +1,5 @@
+pub mod Ticking
+pub mod Deeds
+pub mod Cells
+pub mod Stopping
+pub mod Counting

@@ -1,0 +1,3 @@
+pub mod Clock
+pub mod Plain
+pub mod Inside
