@@ -7,9 +7,9 @@ use native.Mathlib.Omega.{arith}
 use borrow.Author.Tests.{leb-true, ltb-false, not-false}
 use lib.Dec.{eqb, ltb}
 use lib.ListN.{length}
-use Rattle.lines.specs.Levels.{mostHeld}
 use Rattle.lent.specs.Refusals.{no, _then_}
 use Rattle.lent.specs.Areas.{allWithin}
+use Rattle.lines.specs.Levels.{mostHeld}
 use Rattle.orders.specs.Kinds.{addressRight}
 use Rattle.orders.specs.Form.{Message, Transaction}
 use Rattle.orders.specs.Results.{areaOf, slotsOf, slotted, batches, checkOf, listNumber}

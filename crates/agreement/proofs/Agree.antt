@@ -9,9 +9,9 @@ use Rattle.lines.specs.Events.{opened}
 use Rattle.orders.specs.Results.{Batch}
 use Rattle.orders.specs.Marks.{Log}
 use Rattle.symbols.specs.Ticks.{begun}
-use Rattle.controller.specs.Plan.{State, opens, orders}
 use Rattle.symbols.specs.declared.Fault.the-variants.{Clear}
 use Rattle.symbols.specs.declared.Phase.the-variants.{Over}
+use Rattle.controller.specs.Plan.{State, opens, orders}
 use Rattle.eeprom.specs.Stages.{Body, sdaOf}
 use Rattle.eeprom.specs.declared.Stage.the-variants.{Deaf}
 use Rattle.wires.specs.Wires.{Bus, allUp, linesOn, after}

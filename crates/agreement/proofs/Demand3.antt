@@ -7,8 +7,8 @@ use mathlib.Core.List.{List, map}
 use borrow.Author.Tests.{eqb-true, eq-eqb}
 use lib.Dec.{eqb}
 use lib.ListN.{length, getD}
-use Rattle.lines.specs.Levels.{byteOf}
 use Rattle.lent.specs.Areas.{over}
+use Rattle.lines.specs.Levels.{byteOf}
 use Rattle.controller.specs.Plan.{orders}
 use Rattle.board.specs.Desk.{Outcome, ran, refusal}
 use Rattle.wires.specs.Wires.{Ran, linesOn, after}

@@ -93,9 +93,6 @@ module _ (Q : Plan) (asked : ℕ) (d : Q .State) (hs : List ℕ) (t : ℕ) (zs :
   pub open-two-lines : linesOn Q asked (openTwo Q d hs t zs k) ≡ released
   open-two-lines = free (t + (k + 2))
 
-  pub open-three-lines : linesOn Q asked (openThree Q d hs t zs k) ≡ hi ∥ lo
-  open-three-lines = refl
-
   freely : (b : Bus (Q .State)) → linesOn Q asked b ≡ released → faultOf (b .control .phase) (b .control .was) released ≡ Clear → isOver (b .control .phase) ≡ false
       → Clean Q asked b
   freely b l f n = record { clear = ap (faultOf (b .control .phase) (b .control .was)) l ∙ f; live = n }

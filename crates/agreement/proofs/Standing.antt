@@ -8,9 +8,9 @@ use native.Mathlib.Omega.{arith}
 use native.Mathlib.Nat.{add-zero}
 use borrow.Author.Tests.{leb-true}
 use lib.Dec.{leb}
+use Rattle.lent.specs.Areas.{allWithin}
 use Rattle.lines.specs.Levels.{hi, lo, mostHeld}
 use Rattle.lines.specs.Events.{delivered}
-use Rattle.lent.specs.Areas.{allWithin}
 use Rattle.lines.specs.declared.Noted.{Noted}
 use Rattle.lines.specs.declared.Noted.the-variants.{Nothing, Level}
 use Rattle.lines.specs.declared.Event.{Event}

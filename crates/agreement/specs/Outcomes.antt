@@ -8,10 +8,10 @@ use Rattle.lines.specs.Levels.{released}
 use Rattle.orders.specs.Results.{Batch}
 use Rattle.symbols.specs.Symbols.{isOver}
 use Rattle.symbols.specs.Faults.{faultOf}
-use Rattle.controller.specs.Plan.{orders}
-use Rattle.controller.specs.Bound.{mostTicks}
 use Rattle.symbols.specs.declared.Fault.the-variants.{Clear}
 use Rattle.symbols.specs.declared.Phase.the-variants.{Over}
+use Rattle.controller.specs.Plan.{orders}
+use Rattle.controller.specs.Bound.{mostTicks}
 use Rattle.wires.specs.Wires.{linesOn, after, run}
 use Rattle.agreement.specs.Inputs.{Input, listed, batched, begin, whole, answer}
 

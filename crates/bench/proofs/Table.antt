@@ -4,9 +4,8 @@ use mathlib.Core.Path.{_≡_, refl}
 use mathlib.Core.List.{List, [], _∷_, _++_, map}
 use lib.Count.{ones}
 use lib.ListN.{length, replicate}
-use Rattle.bench.specs.Sheet.{Case, memory, changed, stateOf, sheet}
-use Rattle.lines.specs.Levels.{bitAt, mostHeld}
 use Rattle.lent.specs.Areas.{over, allWithin}
+use Rattle.lines.specs.Levels.{bitAt, mostHeld}
 use Rattle.orders.specs.Kinds.{mostBytes, mostMessages, mostLength, isWrite, isCritical, kindRight, addressRight, countRight, lengthRight, dataOf, askedOf, quotaOf, follow, remain}
 use Rattle.orders.specs.Form.{messageAt, parse, parsed, transactionsOf}
 use Rattle.orders.specs.Results.{slotsOfAll, areaOf, blankArea, startArea, slotted, batches, checkOf}
@@ -25,6 +24,7 @@ use Rattle.bus.specs.Run.{wireRun}
 use Rattle.plain.specs.Clock.{symbol, symbols, pass}
 use Rattle.plain.specs.Plain.{writesAll, readsAll, messages, transactions}
 use Rattle.reading.specs.Read.{plain, plainRun}
+use Rattle.bench.specs.Sheet.{Case, memory, changed, stateOf, sheet}
 
 -- two bytes more than R are lent, and stay
 abbrev lent : Case → List ℕ

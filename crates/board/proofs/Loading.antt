@@ -12,11 +12,11 @@ use lib.Seq.{take-suc-set, drop-drop, length-take-le}
 use Rattle.lines.specs.Levels.{digit, bitAt}
 use Rattle.store.specs.Pages.{geometryOf}
 use Rattle.store.specs.Keeping.{Kept, keptOf, keptAt}
+use Rattle.store.specs.declared.Model.the-variants.{Large}
+use Rattle.store.specs.declared.Store.{Store}
 use Rattle.eeprom.specs.Stages.{Body, sdaOf}
 use Rattle.eeprom.specs.States.{wordAt}
-use Rattle.store.specs.declared.Model.the-variants.{Large}
 use Rattle.eeprom.specs.declared.Stage.the-variants.{Deaf}
-use Rattle.store.specs.declared.Store.{Store}
 use Rattle.board.specs.Marks.{placeOf, memoryAt, bodyAt, bodiesFrom}
 use Rattle.board.specs.Seats.{Seated, parted, sizeOf, seated, offset, bodyOf, allUp, seatAt, seatsFrom}
 use Rattle.board.specs.declared.Seat.{Seat}

@@ -10,13 +10,13 @@ use borrow.Author.Tests.{eq-eqb, ne-eqb, eqb-true, lt-ltb, le-ltb}
 use lib.Count.{ones}
 use lib.Dec.{eqb, ltb, leb}
 use lib.ListN.{length}
-use Rattle.lines.specs.Levels.{bitAt, mostHeld}
 use Rattle.lent.specs.Refusals.{no, _then_}
 use Rattle.lent.specs.Areas.{allWithin}
+use Rattle.lines.specs.Levels.{bitAt, mostHeld}
 use Rattle.store.specs.Pages.{geometryOf}
+use Rattle.store.specs.declared.Model.the-variants.{Large}
 use Rattle.eeprom.specs.Stages.{Body}
 use Rattle.eeprom.specs.States.{mostBusy, wordAt}
-use Rattle.store.specs.declared.Model.the-variants.{Large}
 use Rattle.board.specs.Marks.{placeOf, memoryAt, bodyAt, bodiesFrom, bodies}
 use Rattle.board.specs.Desk.{statesRight, boardNumber}
 use Rattle.board.proofs.Places.{all-places}

@@ -10,8 +10,8 @@ use lib.Seq.{length-take-le, take-all, take-suc, take-suc-set, set-getD}
 use Rattle.lines.specs.declared.Event.{Event}
 use Rattle.lines.specs.declared.Event.the-variants.{Quiet, Started, Stopped, Bit}
 use Rattle.store.specs.Pages.{geometryOf}
-use Rattle.eeprom.specs.Stages.{Core, coreOf, sdaOf}
 use Rattle.store.specs.declared.Model.{Model}
+use Rattle.eeprom.specs.Stages.{Core, coreOf, sdaOf}
 use Rattle.eeprom.specs.declared.Stage.{Stage}
 use Rattle.eeprom.specs.declared.Stage.the-variants.{Deaf, Naming, Named, Taking, Taken, Sending, Asking}
 use Rattle.eeprom.proofs.Listening.{hears-model, deaf-to-bits}

@@ -4,15 +4,15 @@ use mathlib.Core.Bool.{Bool, true, not, _&&_, cond}
 use mathlib.Core.List.{List, [], _∷_}
 use lib.Dec.{eqb, ltb}
 use lib.ListN.{length}
-use Rattle.lines.specs.Levels.{mostHeld}
 use Rattle.lent.specs.Refusals.{no, _then_}
 use Rattle.lent.specs.Areas.{allWithin}
+use Rattle.lent.specs.declared.Answer.{Answer}
+use Rattle.lines.specs.Levels.{mostHeld}
 use Rattle.orders.specs.Form.{transactionsOf}
 use Rattle.orders.specs.Results.{areaOf, checkOf, listNumber}
 use Rattle.eeprom.specs.Stages.{Body}
 use Rattle.eeprom.specs.States.{mostBusy, stateRight}
 use Rattle.board.specs.Marks.{chipCount, memoryAt, bodies, memories, stateRow}
-use Rattle.lent.specs.declared.Answer.{Answer}
 
 unfoldable pub statesRight : List Body → Bool
 statesRight [] = true

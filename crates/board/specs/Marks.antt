@@ -6,10 +6,10 @@ use lib.Count.{ones}
 use lib.ListN.{take, drop}
 use Rattle.lines.specs.Levels.{bitAt}
 use Rattle.store.specs.Pages.{geometryOf}
-use Rattle.eeprom.specs.Stages.{Body}
-use Rattle.eeprom.specs.States.{bodyFrom, stateBytes}
 use Rattle.store.specs.declared.Model.{Model}
 use Rattle.store.specs.declared.Model.the-variants.{Large}
+use Rattle.eeprom.specs.Stages.{Body}
+use Rattle.eeprom.specs.States.{bodyFrom, stateBytes}
 
 -- the number of chips is the count of ones
 abbrev pub chipCount : ℕ → ℕ

@@ -4,13 +4,13 @@ use mathlib.Core.Bool.{Bool, true, false, _&&_, cond}
 use mathlib.Core.List.{List, [], _∷_}
 use lib.Dec.{leb}
 use lib.ListN.{take, drop}
+use Rattle.lines.specs.Levels.{bitAt}
 use Rattle.lines.specs.declared.Event.{Event}
 use Rattle.lines.specs.declared.Event.the-variants.{Quiet, Started, Stopped, Bit}
-use Rattle.lines.specs.Levels.{bitAt}
 use Rattle.store.specs.Pages.{geometryOf}
+use Rattle.store.specs.Keeping.{keptAt}
 use Rattle.eeprom.specs.Stages.{Core, Body, coreOf, due, hears, sdaOf}
 use Rattle.eeprom.specs.States.{wordAt, wordBytes}
-use Rattle.store.specs.Keeping.{keptAt}
 use Rattle.eeprom.specs.declared.Stage.{Stage}
 use Rattle.eeprom.specs.declared.Stage.the-variants.{Deaf, Naming, Named, Taking, Taken, Sending, Asking}
 use Rattle.board.specs.Marks.{modelAt, placeOf}

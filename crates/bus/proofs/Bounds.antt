@@ -3,25 +3,24 @@
 use Prim.Native.Nat.{ℕ, zero, suc, _+_, _-_, _*_, _≤_, _<_}
 use native.Mathlib.Omega.{arith}
 use mathlib.Core.Path.{_≡_, refl, ap, _∙_}
-use mathlib.Core.Bool.{Bool, true, false, cond}
+use mathlib.Core.Bool.{Bool, true, false}
 use mathlib.Core.List.{List}
 use lib.ListN.{length}
 use Rattle.lines.specs.Levels.{mostHeld}
-use Rattle.orders.specs.Kinds.{isWrite, lengthRight, dataOf}
 use Rattle.orders.specs.Form.{Message, Transaction, whole, messageAt, transactionsOf}
 use Rattle.orders.specs.Bytes.{Bytes}
 use Rattle.orders.specs.Results.{checkOf}
 use Rattle.orders.specs.Places.{Stands, ended, begins, follows}
 use Rattle.orders.specs.declared.Checked.the-variants.{Accepted}
-use Rattle.orders.proofs.KindLaws.{short-length, few-asked, most-bytes}
+use Rattle.orders.proofs.KindLaws.{few-data, few-asked, most-bytes}
 use Rattle.orders.proofs.Stands.{holds}
 use Rattle.orders.proofs.WholeMessage.{message-inv}
 use Rattle.symbols.specs.Symbols.{isOver}
 use Rattle.symbols.specs.Ticks.{controlTick}
+use Rattle.symbols.proofs.Moves.{stays}
 use Rattle.controller.specs.Plan.{State, orders}
 use Rattle.controller.specs.Bound.{bytesOf, clockedOf, mostTicks}
 use Rattle.controller.proofs.Bound.{leftOf, falls}
-use Rattle.symbols.proofs.Moves.{stays}
 use Rattle.wires.specs.Wires.{Bus, linesOn, tick, after}
 use Rattle.wires.specs.Inside.{limit}
 
@@ -53,14 +52,6 @@ module _ (asked : ℕ) where
           more (omega arith)
 
 -- what a message can take
-few-data : (kind n : ℕ) → lengthRight kind n ≡ true → dataOf kind n ≤ 255
-unfolding dataOf
-few-data kind n e = cases (isWrite kind) (short-length kind n e)
-  where
-    cases : (w : Bool) → n ≤ 255 → cond w n 0 ≤ 255
-    cases true h = omega arith
-    cases false h = omega arith
-
 message-few : (s : List ℕ) (p : ℕ) (m : Message) (q : ℕ) → messageAt s p ≡ whole m q → (bytesOf m ≤ 511) × (p + 3 ≤ q) × (q ≤ length s)
 message-few s p m q i =
     let r = message-inv s p m q i in

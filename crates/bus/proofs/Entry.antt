@@ -9,9 +9,9 @@ use borrow.Author.Tests.{lt-ltb, le-ltb, ne-eqb}
 use lib.Count.{ones}
 use lib.Dec.{ltb}
 use lib.ListN.{length, getD, take}
-use Rattle.lines.specs.Events.{opened}
 use Rattle.lent.specs.Areas.{over}
 use Rattle.lent.specs.Refusals.{no, _then_}
+use Rattle.lines.specs.Events.{opened}
 use Rattle.lines.specs.declared.Lines.{Lines}
 use Rattle.lines.specs.declared.Eye.{Eye}
 use Rattle.orders.specs.Kinds.{mostBytes}
@@ -45,11 +45,11 @@ use Rattle.board.proofs.Saving.{seat-row}
 use Rattle.board.proofs.Seated.{all-together}
 use Rattle.wires.specs.Wires as Wires
 use Rattle.wires.specs.Wires.{Ran, after, run}
-use Rattle.bus.specs.Run.{Traced, traced, start, wireRun}
 use Rattle.wires.specs.Inside.{busOn, limit, Went}
-use Rattle.bus.specs.Inside.{Fine}
 use Rattle.wires.specs.declared.Bus.{Bus}
 use Rattle.wires.proofs.Runs.{run-enough}
+use Rattle.bus.specs.Run.{Traced, traced, start, wireRun}
+use Rattle.bus.specs.Inside.{Fine}
 use Rattle.bus.proofs.Alike as alike
 use Rattle.bus.proofs.Bounds.{over-in-time, most-within}
 

@@ -4,15 +4,15 @@ use mathlib.Core.Bool.{cond}
 use mathlib.Core.List.{List}
 use lib.Dec.{eqb}
 use lib.ListN.{length}
-use Rattle.lines.specs.Events.{opened}
 use Rattle.lent.specs.Areas.{over}
+use Rattle.lent.specs.declared.Answer.{Answer}
+use Rattle.lines.specs.Events.{opened}
 use Rattle.orders.specs.Form.{transactionsOf}
 use Rattle.controller.specs.Plan.{State, orders}
 use Rattle.controller.specs.Bound.{mostTicks}
 use Rattle.controller.specs.Alone.{atFirst}
 use Rattle.board.specs.Marks.{bodies}
 use Rattle.board.specs.Desk.{Outcome, busNumber, ran, refusal}
-use Rattle.lent.specs.declared.Answer.{Answer}
 use Rattle.wires.specs.Wires.{Bus, Ran, run}
 
 -- before the first tick

@@ -25,15 +25,15 @@ use Rattle.orders.proofs.Stands.{holds}
 use Rattle.symbols.specs.Symbols.{drives, isOver}
 use Rattle.symbols.specs.Faults.{isFirst, isTaken, isStuck, faultOf, isClear}
 use Rattle.symbols.specs.Ticks.{first, enter, Control, move, controlTick}
-use Rattle.controller.specs.Plan.{Job, opening, reopening, closing, finished, addressing, addressed, writing, wrote, reading, answering, Context, State, asks, does, goOn, refused, writes, reads, carries, opens, step, orders}
-use Rattle.controller.specs.Bound.{clockedOf, mostTicks}
-use Rattle.controller.specs.Alone.{party, atFirst}
 use Rattle.symbols.specs.declared.Symbol.{Symbol}
 use Rattle.symbols.specs.declared.Fault.{Fault}
 use Rattle.symbols.specs.declared.Fault.the-variants.{Clear}
 use Rattle.symbols.specs.declared.Phase.{Phase}
 use Rattle.symbols.specs.declared.Phase.the-variants.{Over, Waiting, Zero, One, Two, Three}
 use Rattle.symbols.proofs.Moves.{clear-free, clear-running, clear-is}
+use Rattle.controller.specs.Plan.{Job, opening, reopening, closing, finished, addressing, addressed, writing, wrote, reading, answering, Context, State, asks, does, goOn, refused, writes, reads, carries, opens, step, orders}
+use Rattle.controller.specs.Bound.{clockedOf, mostTicks}
+use Rattle.controller.specs.Alone.{party, atFirst}
 use Rattle.controller.proofs.Record.{walk-over}
 
 -- a clocked symbol takes at most this; nine of them are a byte

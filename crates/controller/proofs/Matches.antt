@@ -9,10 +9,10 @@ use Rattle.lines.specs.declared.Lines.{Lines}
 use Rattle.symbols.specs.Symbols.{row, drives, isOver}
 use Rattle.symbols.specs.Faults.{faultOf, isClear}
 use Rattle.symbols.specs.Ticks.{Plan, enter, Control, begun, move, controlTick}
-use Rattle.controller.specs.Alone.{party}
 use Rattle.symbols.specs.declared.Fault.{Fault}
 use Rattle.symbols.specs.declared.Phase.{Phase}
 use Rattle.symbols.specs.declared.Phase.the-variants.{Over, Waiting, Zero, One, Two, Three}
+use Rattle.controller.specs.Alone.{party}
 
 module _ (Q R : Plan) (Same : Q .State → R .State → Type 0) where
   pub record Matches (c : Control (Q .State)) (d : Control (R .State)) : Type 0 where

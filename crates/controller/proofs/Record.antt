@@ -5,20 +5,20 @@ use mathlib.Core.Bool.{Bool, true, false}
 use mathlib.Core.List.{List, [], _∷_}
 use lib.ListN.{length, getD, set}
 use Rattle.lines.specs.Levels.{byteOf, linesOf}
-use Rattle.lines.proofs.Records.{Left, leaves, from-first, one-tick, at-end, ended-early}
 use Rattle.lines.specs.Records.{walk}
 use Rattle.lines.specs.declared.Lines.{Lines}
+use Rattle.lines.proofs.Records.{Left, leaves, from-first, one-tick, at-end, ended-early}
 use Rattle.symbols.specs.Symbols.{drives, isOver}
 use Rattle.symbols.specs.Ticks.{Plan, Control, controlTick}
-use Rattle.controller.specs.Cursor.{Spot, places, controlOf, firstOf}
-use Rattle.controller.specs.Alone.{party, endOf, Alone}
-use Rattle.controller.specs.Running.{ranOn}
-use Rattle.symbols.proofs.Moves.{stays}
-use Rattle.controller.specs.declared.Controller.{Controller}
-use Rattle.controller.specs.declared.End.{End}
 use Rattle.symbols.specs.declared.Fault.{Fault}
 use Rattle.symbols.specs.declared.Phase.{Phase}
 use Rattle.symbols.specs.declared.Phase.the-variants.{Over}
+use Rattle.symbols.proofs.Moves.{stays}
+use Rattle.controller.specs.Cursor.{Spot, places, controlOf, firstOf}
+use Rattle.controller.specs.Alone.{party, endOf, Alone}
+use Rattle.controller.specs.Running.{ranOn}
+use Rattle.controller.specs.declared.Controller.{Controller}
+use Rattle.controller.specs.declared.End.{End}
 
 -- at its end a controller changes nothing, whatever the plan
 module _ (Q : Plan) where

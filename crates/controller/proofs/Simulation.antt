@@ -21,10 +21,10 @@ use Rattle.orders.proofs.KindLaws.{most-bytes, short-length, data-written, foll
 use Rattle.orders.proofs.WholeMessage.{message-inv, message-size, message-room, message-below, message-slots}
 use Rattle.symbols.specs.Faults.{outcomeOf}
 use Rattle.symbols.specs.Ticks.{clocked}
-use Rattle.controller.specs.Plan.{Job, opening, reopening, closing, finished, addressing, addressed, writing, wrote, reading, answering, Context, State, asks, does, marked, goOn, refused, writes, reads, carries, opens, step, orders}
-use Rattle.controller.specs.Cursor.{wrap, acts, carriesOn, addressAt, dataAt, passed, passedAll, goesOn, refusedBy, putsOn, getsOn, carriesOut, opensAt, opensAfter, stepIn, stepOf, noteIn, noteOf, askIn, askOf, Spot, places}
 use Rattle.symbols.specs.declared.Symbol.the-variants.{Sent}
 use Rattle.symbols.specs.declared.Fault.{Fault}
+use Rattle.controller.specs.Plan.{Job, opening, reopening, closing, finished, addressing, addressed, writing, wrote, reading, answering, Context, State, asks, does, marked, goOn, refused, writes, reads, carries, opens, step, orders}
+use Rattle.controller.specs.Cursor.{wrap, acts, carriesOn, addressAt, dataAt, passed, passedAll, goesOn, refusedBy, putsOn, getsOn, carriesOut, opensAt, opensAfter, stepIn, stepOf, noteIn, noteOf, askIn, askOf, Spot, places}
 use Rattle.controller.specs.declared.Act.{Act}
 use Rattle.controller.specs.declared.Act.the-variants.{Opens, Reopens, Closes, Finishes, Addresses, Hears, Puts, Awaits, Gets, Answers}
 use Rattle.controller.specs.declared.Cursor.{Cursor}

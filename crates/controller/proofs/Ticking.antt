@@ -5,19 +5,19 @@ use mathlib.Core.Bool.{Bool, true, false}
 use mathlib.Core.List.{List}
 use lib.ListN.{set}
 use Rattle.lines.specs.declared.Lines.{Lines}
-use Rattle.symbols.specs.Symbols.{drives}
 use Rattle.orders.specs.Marks.{note}
+use Rattle.symbols.specs.Symbols.{drives}
 use Rattle.symbols.specs.Faults.{faultOf, outcomeOf, isClear}
 use Rattle.symbols.specs.Ticks.{enter, Control, inPhase, move, controlTick}
-use Rattle.controller.specs.Cursor.{nowhere, opensAt, stepOf, noteOf, askOf, Spot, places, controlOf, firstOf}
-use Rattle.controller.specs.declared.Cursor.{Cursor}
-use Rattle.controller.specs.declared.Controller.{Controller}
 use Rattle.symbols.specs.Moves.{isLast, phaseAfter}
-use Rattle.symbols.proofs.Moves.{clear-is, move-inside, move-last}
 use Rattle.symbols.specs.declared.Fault.{Fault}
 use Rattle.symbols.specs.declared.Fault.the-variants.{Clear}
 use Rattle.symbols.specs.declared.Phase.{Phase}
 use Rattle.symbols.specs.declared.Phase.the-variants.{Over}
+use Rattle.symbols.proofs.Moves.{clear-is, move-inside, move-last}
+use Rattle.controller.specs.Cursor.{nowhere, opensAt, stepOf, noteOf, askOf, Spot, places, controlOf, firstOf}
+use Rattle.controller.specs.declared.Cursor.{Cursor}
+use Rattle.controller.specs.declared.Controller.{Controller}
 
 -- the tick in the code's words
 module _ (list : List ℕ) (l : Lines) (c : Controller) (a : List ℕ) (f : Fault) (b : Bool) (seen : f ≡ faultOf (c .phase) (c .was) l) (tested : b ≡ isClear f) where

@@ -13,11 +13,11 @@ use Rattle.orders.specs.Marks.{note, readMark}
 use Rattle.orders.specs.Places.{sizeAt, roomAt}
 use Rattle.orders.specs.declared.Quota.{Quota}
 use Rattle.symbols.specs.Ticks.{enter}
-use Rattle.controller.specs.Cursor.{wrap, acts, carriesOn, counted, nowhere, addressAt, dataAt, passed, passedAll, goesOn, refusedBy, putsOn, getsOn, carriesOut, opensAt, stepIn, stepOf, noteIn, noteOf, askIn, askOf}
 use Rattle.symbols.specs.declared.Begin.the-variants.{First}
 use Rattle.symbols.specs.declared.Symbol.the-variants.{Start, Sent}
 use Rattle.symbols.specs.declared.Phase.{Phase}
 use Rattle.symbols.specs.declared.Phase.the-variants.{Zero, Waiting}
+use Rattle.controller.specs.Cursor.{wrap, acts, carriesOn, counted, nowhere, addressAt, dataAt, passed, passedAll, goesOn, refusedBy, putsOn, getsOn, carriesOut, opensAt, stepIn, stepOf, noteIn, noteOf, askIn, askOf}
 use Rattle.controller.specs.declared.Act.{Act}
 use Rattle.controller.specs.declared.Act.the-variants.{Opens, Reopens, Closes, Addresses, Hears, Puts, Awaits, Gets, Answers}
 use Rattle.controller.specs.declared.Cursor.{Cursor}

@@ -4,17 +4,17 @@ use mathlib.Core.Bool.{cond}
 use mathlib.Core.List.{List}
 use lib.Dec.{eqb, ltb}
 use lib.ListN.{length}
-use Rattle.lines.specs.Records.{Party, walk, drivesOn, badSample}
 use Rattle.lent.specs.Areas.{over}
 use Rattle.lent.specs.Refusals.{no, _then_}
+use Rattle.lines.specs.Records.{Party, walk, drivesOn, badSample}
 use Rattle.orders.specs.Form.{transactionsOf}
 use Rattle.orders.specs.Results.{areaOf, startArea, batches, checkOf, listNumber}
 use Rattle.symbols.specs.Symbols.{drives, isOver}
 use Rattle.symbols.specs.Ticks.{Plan, Control, begun, controlTick}
-use Rattle.controller.specs.Plan.{State, orders, opens}
 use Rattle.symbols.specs.declared.Fault.the-variants.{Clear, DataLost, ClockStuck, Undefined, NotFree, LineBroken}
 use Rattle.symbols.specs.declared.Phase.{Phase}
 use Rattle.symbols.specs.declared.Phase.the-variants.{Over, Waiting, Zero, One, Two, Three}
+use Rattle.controller.specs.Plan.{State, orders, opens}
 use Rattle.controller.specs.declared.End.{End}
 use Rattle.controller.specs.declared.End.the-variants.{Refused, ListEnd, Faulted, RecordEnd}
 use Rattle.controller.specs.declared.Told.{Told}

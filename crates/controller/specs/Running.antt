@@ -2,8 +2,8 @@
 use Prim.Native.Nat.{ℕ}
 use mathlib.Core.List.{List}
 use lib.ListN.{length}
-use Rattle.lines.specs.Records.{walk, drivesOn}
 use Rattle.lent.specs.Areas.{over}
+use Rattle.lines.specs.Records.{walk, drivesOn}
 use Rattle.symbols.specs.Ticks.{Control}
 use Rattle.controller.specs.Cursor.{Spot, places}
 use Rattle.controller.specs.Alone.{party, endOf, Alone}

@@ -9,11 +9,11 @@ use Rattle.lines.specs.Levels.{shifted}
 use Rattle.lines.specs.declared.Event.{Event}
 use Rattle.lines.specs.declared.Event.the-variants.{Quiet, Started, Stopped, Bit}
 use Rattle.store.specs.Keeping.{Kept, geo, keptOf, takesAt, takes, byteNow, stepped, steps, emptied, starts, stops, keptAt}
+use Rattle.store.specs.declared.Model.{Model}
+use Rattle.store.specs.declared.Store.{Store}
 use Rattle.eeprom.specs.Stages.{Core, coreOf, at, named, answered, bitTo, due, hears, busyAfter}
 use Rattle.eeprom.specs.States.{bodyAt}
-use Rattle.store.specs.declared.Model.{Model}
 use Rattle.eeprom.specs.declared.Chip.{Chip}
-use Rattle.store.specs.declared.Store.{Store}
 use Rattle.eeprom.specs.declared.Stage.{Stage}
 use Rattle.eeprom.specs.declared.Stage.the-variants.{Deaf, Naming, Named, Taking, Taken, Sending, Asking}
 

@@ -10,10 +10,10 @@ use Rattle.lines.specs.Levels.{shifted}
 use Rattle.lines.specs.declared.Event.{Event}
 use Rattle.lines.specs.declared.Event.the-variants.{Quiet, Started, Stopped, Bit}
 use Rattle.store.specs.Keeping.{Kept, takes, steps, starts, stops}
+use Rattle.store.proofs.Kept.{Sound, takes-tame, steps-tame, starts-tame, stops-tame, stops-length, taking-stores-nothing, reading-stores-nothing, start-stores-nothing}
 use Rattle.eeprom.specs.Stages.{Core, named, answered, bitTo, due, hears, sdaOf, Body, bodyTick}
 use Rattle.eeprom.specs.declared.Stage.{Stage}
 use Rattle.eeprom.specs.declared.Stage.the-variants.{Deaf, Naming, Named, Taking, Taken, Sending, Asking}
-use Rattle.store.proofs.Kept.{Sound, takes-tame, steps-tame, starts-tame, stops-tame, stops-length, taking-stores-nothing, reading-stores-nothing, start-stores-nothing}
 
 named-keeps : (P : Kept → Type 0) (q : Bool) (x : ℕ) (c : Core) → P (c .kept) → P (named q x c .kept)
 named-keeps P true x c p = p

@@ -8,10 +8,10 @@ use borrow.Author.Tests.{lt-ltb, le-ltb}
 use lib.Dec.{ltb, leb}
 use lib.ListN.{set}
 use Rattle.lent.specs.Areas.{over}
-use Rattle.store.specs.Pages.{geometryOf}
-use Rattle.eeprom.specs.States.{mostBusy, wordBytes}
-use Rattle.store.specs.declared.Model.{Model}
 use Rattle.lent.proofs.Rows.{one-byte, all-bytes, from-front}
+use Rattle.store.specs.Pages.{geometryOf}
+use Rattle.store.specs.declared.Model.{Model}
+use Rattle.eeprom.specs.States.{mostBusy, wordBytes}
 
 pub in-range : (m : Model) (size p b : ℕ) → size ≡ geometryOf m .size → p < size → leb b 20000 ≡ (ltb p (geometryOf m .size) && leb b mostBusy)
 unfolding mostBusy

@@ -7,8 +7,8 @@ use lib.Dec.{leb, ltb}
 use lib.ListN.{getD}
 use Rattle.store.specs.Pages.{geometryOf}
 use Rattle.store.specs.Keeping.{keptAt}
-use Rattle.eeprom.specs.Stages.{Body}
 use Rattle.store.specs.declared.Model.{Model}
+use Rattle.eeprom.specs.Stages.{Body}
 use Rattle.eeprom.specs.declared.Stage.the-variants.{Deaf}
 
 -- the busy ticks that may be asked for or be left

@@ -8,11 +8,11 @@ use native.Mathlib.Nat.{zero-add, add-zero}
 use native.Mathlib.Numerals.{add-one}
 use lib.ListN.{length, getD, set, drop, drop-of-length-le}
 use lib.Seq.{drop-cons}
+use Rattle.lent.specs.Areas.{over}
+use Rattle.lent.proofs.Rows.{overFrom, one-byte, all-bytes, from-front}
 use Rattle.lines.specs.Levels.{byteOf, linesOf}
 use Rattle.lines.specs.Records.{Party, walk, drivesOn}
-use Rattle.lent.specs.Areas.{over}
 use Rattle.lines.specs.declared.Lines.{Lines}
-use Rattle.lent.proofs.Rows.{overFrom, one-byte, all-bytes, from-front}
 
 module _ (P : Party) where
   -- everything that a party alone leaves

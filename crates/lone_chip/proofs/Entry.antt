@@ -7,25 +7,25 @@ use mathlib.Core.List.{List, [], _∷_}
 use borrow.Author.Tests.{lt-ltb, le-ltb, eq-eqb, ne-eqb, ltb-false, eqb-true, not-false}
 use lib.Dec.{eqb, ltb, leb}
 use lib.ListN.{length, getD, set}
+use Rattle.lent.specs.Areas.{over, allWithin}
+use Rattle.lent.specs.Refusals.{no, _then_}
+use Rattle.lent.proofs.Rows.{over-whole}
+use Rattle.lent.proofs.Refusals.{none-first, none-later, not-said}
 use Rattle.lines.specs.Levels.{hi, _∥_, byteOf, linesOf}
 use Rattle.lines.specs.Events.{eventOf, eyeAfter, opened}
 use Rattle.lines.specs.Records.{walk, drivesOn, badSample}
-use Rattle.lent.specs.Areas.{over, allWithin}
-use Rattle.lent.specs.Refusals.{no, _then_}
 use Rattle.lines.specs.declared.Lines.{Lines}
 use Rattle.lines.specs.declared.Eye.{Eye}
 use Rattle.lines.specs.declared.Event.{Event}
+use Rattle.lines.proofs.Records.{Left, leaves, one-tick}
 use Rattle.store.specs.Pages.{geometryOf}
-use Rattle.eeprom.specs.Stages.{Core, coreOf, hears, sdaOf, busyAfter, bodyTick}
-use Rattle.eeprom.specs.States.{mostBusy, wordAt, wordBytes, bodyAt, bodyFrom, stateBytes, stateRight}
-use Rattle.lone_chip.specs.Alone.{Watching, watchOf, restOf, chip, chipNumber, leftBy, chipAlone}
-use Rattle.eeprom.specs.declared.Chip.{Chip}
-use Rattle.lone_chip.specs.declared.Watch.{Watch}
 use Rattle.store.specs.declared.Model.{Model}
 use Rattle.store.specs.declared.Model.the-variants.{Large}
-use Rattle.lines.proofs.Records.{Left, leaves, one-tick}
-use Rattle.lent.proofs.Rows.{over-whole}
-use Rattle.lent.proofs.Refusals.{none-first, none-later, not-said}
+use Rattle.eeprom.specs.Stages.{Core, coreOf, hears, sdaOf, busyAfter, bodyTick}
+use Rattle.eeprom.specs.States.{mostBusy, wordAt, wordBytes, bodyAt, bodyFrom, stateBytes, stateRight}
+use Rattle.eeprom.specs.declared.Chip.{Chip}
+use Rattle.lone_chip.specs.Alone.{Watching, watchOf, restOf, chip, chipNumber, leftBy, chipAlone}
+use Rattle.lone_chip.specs.declared.Watch.{Watch}
 
 -- the refusals, each after those before it were passed
 module _ (strap asked : ℕ) (memory state samples drives : List ℕ) where

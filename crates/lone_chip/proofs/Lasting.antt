@@ -7,22 +7,22 @@ use native.Mathlib.Omega.{arith}
 use borrow.Author.Tests.{lt-ltb, le-leb, ltb-true, leb-true}
 use lib.Dec.{eqb, ltb, leb}
 use lib.ListN.{length}
-use Rattle.lines.specs.Records.{walk}
 use Rattle.lent.specs.Areas.{allWithin}
+use Rattle.lent.proofs.Rows.{length-over}
+use Rattle.lines.specs.Records.{walk}
 use Rattle.lines.specs.declared.Event.{Event}
 use Rattle.lines.specs.declared.Event.the-variants.{Quiet, Started, Stopped, Bit}
+use Rattle.lines.proofs.Records.{walk-keeps}
 use Rattle.store.specs.Pages.{geometryOf}
-use Rattle.eeprom.specs.Stages.{Core, due, Body, busyAfter, bodyTick}
-use Rattle.eeprom.specs.States.{mostBusy, wordAt, wordBytes, bodyFrom, stateRight}
-use Rattle.lone_chip.specs.Alone.{Watching, restOf, chip, chipNumber, chipAlone}
 use Rattle.store.specs.declared.Model.{Model}
 use Rattle.store.specs.declared.Model.the-variants.{Large}
 use Rattle.store.proofs.Pages.{fits}
 use Rattle.store.proofs.Kept.{Sound, sound-at-rest}
+use Rattle.eeprom.specs.Stages.{Core, due, Body, busyAfter, bodyTick}
+use Rattle.eeprom.specs.States.{mostBusy, wordAt, wordBytes, bodyFrom, stateRight}
 use Rattle.eeprom.proofs.Listening.{hears-model, hears-sound}
+use Rattle.lone_chip.specs.Alone.{Watching, restOf, chip, chipNumber, chipAlone}
 use Rattle.lone_chip.proofs.Entry.{whole-memory, right-state, asked-in}
-use Rattle.lines.proofs.Records.{walk-keeps}
-use Rattle.lent.proofs.Rows.{length-over}
 
 -- a chip of the large kind, in range
 pub record Right (b : Body) : Type 0 where

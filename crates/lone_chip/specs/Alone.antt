@@ -4,18 +4,18 @@ use mathlib.Core.Bool.{false, not, _&&_, cond}
 use mathlib.Core.List.{List, []}
 use lib.Dec.{eqb, ltb}
 use lib.ListN.{length}
+use Rattle.lent.specs.Areas.{over}
+use Rattle.lent.specs.Refusals.{no, _then_}
+use Rattle.lent.specs.declared.Answer.{Answer}
 use Rattle.lines.specs.Levels.{hi, _∥_}
 use Rattle.lines.specs.Events.{eventOf, eyeAfter, opened}
 use Rattle.lines.specs.Records.{Party, walk, drivesOn, badSample}
-use Rattle.lent.specs.Areas.{over}
-use Rattle.lent.specs.Refusals.{no, _then_}
 use Rattle.lines.specs.declared.Eye.{Eye}
 use Rattle.store.specs.Pages.{geometryOf}
+use Rattle.store.specs.declared.Model.the-variants.{Large}
 use Rattle.eeprom.specs.Stages.{Body, coreOf, bodyTick, sdaOf}
 use Rattle.eeprom.specs.States.{mostBusy, bodyFrom, stateBytes, stateRight}
-use Rattle.store.specs.declared.Model.the-variants.{Large}
 use Rattle.lone_chip.specs.declared.Watch.{Watch}
-use Rattle.lent.specs.declared.Answer.{Answer}
 
 pub record Watching : Type 0 where
   pub eye : Eye

@@ -2,9 +2,9 @@
 ghost use mathlib.Core.Path.{_≡_};
 ghost use mathlib.Core.List.{List};
 ghost use Prim.Native.Nat.{ℕ};
+ghost use Rattle.lent.specs.Areas.{over};
 ghost use Rattle.lines.specs.Levels.{hi, _∥_};
 ghost use Rattle.lines.specs.Records.{walk, drivesOn};
-ghost use Rattle.lent.specs.Areas.{over};
 ghost use Rattle.eeprom.specs.Stages.{sdaOf};
 ghost use Rattle.eeprom.specs.States.{bodyAt};
 ghost use Rattle.lone_chip.specs.Alone.{watchOf, restOf, chip, chipNumber, leftBy, chipAlone};

@@ -10,13 +10,13 @@ use lib.ListN.{getD, set}
 use Rattle.orders.specs.Kinds.{follow, remain}
 use Rattle.orders.specs.Asking.{get}
 use Rattle.orders.specs.Marks.{written, noteArea, readMark}
-use Rattle.store.specs.Keeping.{steps}
 use Rattle.orders.specs.declared.Quota.{Quota}
+use Rattle.store.specs.Keeping.{steps}
 use Rattle.plain.specs.Plain.{World, listens, byteGoes, valueOf, writesAll, readsOne, readsAll, carried}
 use Rattle.plain.specs.Inside.{cellsOf}
+use Rattle.plain.specs.declared.Deed.the-variants.{Take, Send}
 use Rattle.messages.specs.Inside.{worldOf, Goes}
 use Rattle.messages.specs.Along.{bytesAt}
-use Rattle.plain.specs.declared.Deed.the-variants.{Take, Send}
 use Rattle.messages.specs.declared.Run.{Run}
 use Rattle.messages.proofs.Going.{byte-went}
 

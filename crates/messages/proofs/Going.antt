@@ -12,11 +12,11 @@ use Rattle.board.specs.declared.Seat.{Seat}
 use Rattle.plain.specs.Clock.{Clock, symbol, symbols, pass}
 use Rattle.plain.specs.Plain.{Cell, World, does, anyOf, listens, answered, byteGoes, started, stores, closes}
 use Rattle.plain.specs.Inside.{symbolMost, timeOf, Passes, cellsOf, meant, keptDoes, moves}
-use Rattle.messages.specs.Inside.{Sound, worldOf, Comes, Goes, Opens}
-use Rattle.messages.specs.Along.{slotOf}
 use Rattle.plain.specs.declared.Time.{Time}
 use Rattle.plain.specs.declared.Deed.{Deed}
 use Rattle.plain.specs.declared.Deed.the-variants.{Start}
+use Rattle.messages.specs.Inside.{Sound, worldOf, Comes, Goes, Opens}
+use Rattle.messages.specs.Along.{slotOf}
 use Rattle.messages.specs.declared.Run.{Run}
 use Rattle.messages.specs.declared.Place.{Place}
 

@@ -6,25 +6,25 @@ use mathlib.Core.Bool.{Bool, true, false, not, _||_}
 use mathlib.Core.List.{List}
 use borrow.Author.Tests.{not-true, not-false}
 use lib.ListN.{getD, set}
-use Rattle.orders.specs.Kinds.{isWrite, isCritical, dataOf, quotaOf, follow}
+use Rattle.orders.specs.Kinds.{isWrite, isCritical, dataOf, quotaOf}
 use Rattle.orders.specs.Asking.{Order, put, get, orderOf}
 use Rattle.orders.specs.Marks.{note}
 use Rattle.orders.specs.declared.Quota.{Quota}
+use Rattle.orders.proofs.KindLaws.{few-follow}
 use Rattle.plain.specs.Clock.{Clock, symbols}
 use Rattle.plain.specs.Plain.{World, listens, answered, addressed, messageIf, message, messages, carried, writesAll}
 use Rattle.plain.specs.Inside.{symbolMost, timeOf, Passes, cellsOf}
-use Rattle.messages.specs.Inside.{byteMost, bytesMost, messageMost, worldOf, Sound, Comes, Goes}
-use Rattle.messages.specs.Along.{Few, bytesAt, slotOf, beyond, slotsAt}
 use Rattle.plain.specs.declared.Time.{Time}
 use Rattle.plain.specs.declared.Deed.the-variants.{Start}
+use Rattle.messages.specs.Inside.{byteMost, bytesMost, messageMost, worldOf, Sound, Comes, Goes}
+use Rattle.messages.specs.Along.{Few, bytesAt, slotOf, beyond, slotsAt}
 use Rattle.messages.specs.declared.Run.{Run}
 use Rattle.messages.specs.declared.Place.{Place}
 use Rattle.messages.proofs.Going.{tick-is, restarted}
 
 -- a read that asks for n bytes, n a byte, reads at most so many
 pub few-read : (kind n : ℕ) (q : Quota) → q ≡ quotaOf kind n → n < 256 → Few q
-unfolding quotaOf follow
-few-read kind n q e h = rw e (record { few = λ x. omega arith })
+few-read kind n q e h = rw e (record { few = λ x. few-follow kind n x h })
 
 -- the address byte went by: `at` is the run's after it, `eighth` the time at which the answer was decided
 

@@ -8,9 +8,9 @@ use Rattle.store.specs.Keeping.{starts}
 use Rattle.board.specs.Seats.{offset}
 use Rattle.plain.specs.Clock.{symbols, pass}
 use Rattle.plain.specs.Plain.{World, does, messages, started, closes}
+use Rattle.plain.specs.Inside.{symbolMost, timeOf, Passes, cellsOf, moves}
 use Rattle.plain.specs.declared.Deed.{Deed}
 use Rattle.messages.specs.declared.Run.{Run}
-use Rattle.plain.specs.Inside.{symbolMost, timeOf, Passes, cellsOf, moves}
 
 -- the most ticks that each may take: a byte, 256 bytes, a message, 256 messages, a transaction with its wait
 abbrev pub byteMost : ℕ

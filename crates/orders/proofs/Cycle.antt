@@ -8,9 +8,6 @@ use native.Mathlib.Nat.{add-zero}
 use native.Mathlib.Omega.{arith}
 use lib.ListN.{length, getD}
 use lib.Dec.{ltb, leb}
-use Rattle.orders.proofs.KindLaws.{tests}
-use Rattle.orders.proofs.OneMessage.{held, failed}
-use Rattle.orders.proofs.WholeMessage.{told, learnt}
 use Rattle.orders.specs.Kinds.{mostBytes, countRight}
 use Rattle.orders.specs.Form.{Message, Read, whole, broken, breaks, cut, Parsed, right, wrong, after, andMessage, andTransaction, waitAt, messageAt, parse, parsed}
 use Rattle.orders.specs.Results.{slotsOf, slotsOfAll, areaOf, checkedAs, checkOf}
@@ -21,6 +18,9 @@ use Rattle.orders.specs.declared.Found.{Found}
 use Rattle.orders.specs.declared.Found.the-variants as found
 use Rattle.orders.specs.declared.Checked.{Checked}
 use Rattle.orders.specs.declared.Checked.the-variants.{Accepted, TooLong, Broken}
+use Rattle.orders.proofs.KindLaws.{tests}
+use Rattle.orders.proofs.OneMessage.{held, failed}
+use Rattle.orders.proofs.WholeMessage.{told, learnt}
 
 -- ---- the area grows by a message's slots, and by a transaction's outcome
 

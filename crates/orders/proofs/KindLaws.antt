@@ -81,6 +81,14 @@ few-asked kind n e = cases (isWrite kind) (short-length kind n e)
     cases true h = omega arith
     cases false h = omega arith
 
+pub few-data : (kind n : ℕ) → lengthRight kind n ≡ true → dataOf kind n ≤ 255
+unfolding dataOf
+few-data kind n e = cases (isWrite kind) (short-length kind n e)
+  where
+    cases : (w : Bool) → n ≤ 255 → cond w n 0 ≤ 255
+    cases true h = omega arith
+    cases false h = omega arith
+
 -- a read that is right asks for at least the byte that gets the 1
 pub some-asked : (kind n : ℕ) → lengthRight kind n ≡ true → isWrite kind ≡ false → 1 ≤ n
 unfolding lengthRight
@@ -92,3 +100,8 @@ some-asked kind n e w =
 pub follow-remain : (q : Quota) (n x : ℕ) → follow (remain q n) x ≡ n
 unfolding follow remain
 follow-remain q n x = refl
+
+-- so few follow that their count is a byte
+pub few-follow : (kind n x : ℕ) → n < 256 → follow (quotaOf kind n) x < 255
+unfolding quotaOf follow
+few-follow kind n x h = omega arith

@@ -4,18 +4,18 @@ use mathlib.Core.List.{List, [], _∷_, _++_, append-assoc}
 use Prim.Native.Nat.{ℕ, zero, suc, _+_, _-_, _<_, _≤_}
 use native.Mathlib.Nat.{add-assoc, zero-add}
 use native.Mathlib.Omega.{arith}
-use lib.ListN.{length, getD, drop, replicate, length-append, length-drop, length-replicate, replicate-append-replicate}
+use lib.ListN.{length, getD, drop, replicate, length-append, length-replicate, replicate-append-replicate}
 use lib.Seq.{set-at}
 use borrow.Author.Tests.{lt-ltb, le-ltb}
-use Rattle.orders.proofs.KindLaws.{some-message}
-use Rattle.orders.proofs.WholeMessage.{message-size, message-room, message-below}
-use Rattle.orders.proofs.Stands.{holds}
 use Rattle.orders.specs.Kinds.{mostBytes}
 use Rattle.orders.specs.Form.{Message, Transaction, transactionsOf}
 use Rattle.orders.specs.Places.{Stands, ended, begins, follows}
 use Rattle.orders.specs.Results.{slotsOf, slotsOfAll, areaOf, blankArea, startArea, checkOf}
 use Rattle.orders.specs.Start.{outcomesFrom, startedOf}
 use Rattle.orders.specs.declared.Checked.the-variants.{Accepted}
+use Rattle.orders.proofs.KindLaws.{some-message}
+use Rattle.orders.proofs.WholeMessage.{message-size, message-room, message-below}
+use Rattle.orders.proofs.Stands.{holds}
 
 -- zeros in two parts, after the bytes before them
 zeros : (pre : List ℕ) (k r : ℕ) (tail : List ℕ) → pre ++ (replicate (k + r) 0 ++ tail) ≡ (pre ++ replicate k 0) ++ (replicate r 0 ++ tail)
@@ -63,13 +63,4 @@ blank-length (t ∷ ts) =
     let r = blank-length ts in
     let a = length-append (replicate n 0) (blankArea ts) in
     let b = length-replicate {A = ℕ} n 0 in
-    omega arith
-
--- the area keeps its length
-pub start-length : (ts : List Transaction) (a : List ℕ) → areaOf ts ≤ length a → length (startArea ts a) ≡ length a
-unfolding startArea
-start-length ts a h =
-    let b = blank-length ts in
-    let c = length-append (blankArea ts) (drop (areaOf ts) a) in
-    let d = length-drop (areaOf ts) a in
     omega arith

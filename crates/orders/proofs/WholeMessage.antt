@@ -5,10 +5,8 @@ use mathlib.Core.List.{List}
 use Prim.Native.Nat.{ℕ, _+_, _<_, _≤_}
 use native.Mathlib.Omega.{arith}
 use lib.ListN.{length, getD, take, drop}
-use lib.Seq.{getD-take, getD-drop}
 use lib.Dec.{ltb, leb}
 use borrow.Author.Tests.{ltb-true, leb-true}
-use Rattle.orders.proofs.KindLaws.{few-asked}
 use Rattle.orders.specs.Kinds.{addressRight, kindRight, lengthRight, dataOf}
 use Rattle.orders.specs.Form.{Message, Read, whole, broken, breaks, cut, messageAt}
 use Rattle.orders.specs.Results.{slotsOf}
@@ -18,6 +16,7 @@ use Rattle.orders.specs.declared.Rule.{Rule}
 use Rattle.orders.specs.declared.Break.{Break}
 use Rattle.orders.specs.declared.Found.{Found}
 use Rattle.orders.specs.declared.Found.the-variants.{Whole, Broken}
+use Rattle.orders.proofs.KindLaws.{few-asked}
 
 -- m stands at p, and q is the place after it
 pub record IsMessage (s : List ℕ) (p : ℕ) (m : Message) (q : ℕ) : Type 0 where
@@ -74,9 +73,6 @@ module _ (s : List ℕ) (p : ℕ) (m : Message) (q : ℕ) (e : messageAt s p ≡
 
   pub message-below : p < length s
   message-below = let i = message-inv s p m q e in let next = i .next in let room = i .room in omega arith
-
-  pub message-sent : (j : ℕ) → j < dataOf (m .kind) (m .asked) → getD (m .sent) j 0 ≡ getD s (p + 3 + j) 0
-  message-sent j h = let i = message-inv s p m q e in rw (← i .sent, getD-take, getD-drop)
 
   pub message-slots : slotsOf m ≤ 257
   message-slots = let i = message-inv s p m q e in let f = few-asked (m .kind) (m .asked) (i .length-right) in omega arith

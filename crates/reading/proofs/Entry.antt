@@ -3,15 +3,13 @@ use Prim.Native.Nat.{ℕ, zero, suc, _*_, _<_, _≤_}
 use native.Mathlib.Nat.{sub-zero}
 use native.Mathlib.Omega.{arith}
 use mathlib.Core.Path.{_≡_, refl, ap, ap₂, sym, _∙_}
-use mathlib.Core.Bool.{Bool, true, false, not, _&&_}
 use mathlib.Core.List.{List, [], _∷_, _++_, map}
-use borrow.Author.Tests.{lt-ltb, le-ltb, eqb-true, ne-eqb}
+use borrow.Author.Tests.{lt-ltb, le-ltb, ne-eqb}
 use lib.Count.{ones}
-use lib.Dec.{eqb, ltb}
+use lib.Dec.{ltb}
 use lib.ListN.{length, take}
-use Rattle.lines.specs.Levels.{mostHeld}
 use Rattle.lent.specs.Refusals.{no, _then_}
-use Rattle.lent.specs.Areas.{allWithin}
+use Rattle.lent.specs.declared.Answer.{Answer}
 use Rattle.orders.specs.Form.{transactionsOf}
 use Rattle.orders.specs.Kinds.{mostBytes}
 use Rattle.orders.specs.Results.{startArea, checkOf}
@@ -21,25 +19,24 @@ use Rattle.orders.specs.declared.Checked.{Checked}
 use Rattle.orders.specs.declared.Checked.the-variants.{Accepted, TooLong, Broken}
 use Rattle.orders.proofs.Stands.{holds}
 use Rattle.orders.proofs.Starts.{starts}
-use Rattle.eeprom.specs.States.{mostBusy}
 use Rattle.board.specs.Marks.{memoryAt, bodies, memories, stateRow}
-use Rattle.board.specs.Desk.{Outcome, statesRight, boardNumber, busNumber}
+use Rattle.board.specs.Desk.{Outcome, boardNumber, busNumber}
 use Rattle.board.specs.Seats.{Seated, seated, offset, seatsFrom, seatRow}
 use Rattle.board.specs.Seats as seats
-use Rattle.lent.specs.declared.Answer.{Answer}
 use Rattle.board.specs.declared.Seat.{Seat}
+use Rattle.board.proofs.Range.{board-lengths}
 use Rattle.board.proofs.Loading.{loaded-is, loaded-fits}
 use Rattle.board.proofs.Seated.{all-together}
 use Rattle.board.proofs.Saving.{seat-row}
 use Rattle.plain.specs.Plain.{Cell, World, transactions}
-use Rattle.reading.specs.Read.{cellOf, bodyOf, plain, plainRun}
 use Rattle.plain.specs.Inside.{far, timeOf, cellOn, cellsOf}
+use Rattle.plain.proofs.Cells.{cells-length}
+use Rattle.plain.proofs.Counting.{transactions-count}
 use Rattle.messages.specs.Inside.{worldOf, Sound, Comes}
 use Rattle.messages.specs.Along.{batchesAt}
 use Rattle.messages.specs.declared.Run.{Run}
 use Rattle.messages.proofs.Listed.{listed}
-use Rattle.plain.proofs.Cells.{cells-length}
-use Rattle.plain.proofs.Counting.{transactions-count}
+use Rattle.reading.specs.Read.{cellOf, bodyOf, plain, plainRun}
 
 -- chips as they come and go
 
@@ -58,19 +55,6 @@ states-are t [] = refl
 states-are t (x ∷ xs) = rw (states-are t xs)
 
 -- a board that is not turned down has its memory and states whole
-
-abbrev rest : (marks : ℕ) → (memory states held : List ℕ) → (asked : ℕ) → ℕ
-rest marks memory states held asked = no 4 (not (statesRight (bodies marks memory states))) then no 5 (not (allWithin mostHeld held)) then no 6 (ltb mostBusy asked)
-
-board-fits : (marks : ℕ) (memory states held : List ℕ) (asked : ℕ) → boardNumber marks memory states held asked ≡ 0 → (length memory ≡ memoryAt marks 8) × (length states ≡ 4 * ones marks)
-unfolding boardNumber
-board-fits marks memory states held asked e = cases (eqb (length memory) (memoryAt marks 8)) refl (eqb (length states) (4 * ones marks)) refl e
-  where
-    cases : (a : Bool) → eqb (length memory) (memoryAt marks 8) ≡ a → (b : Bool) → eqb (length states) (4 * ones marks) ≡ b
-        → no 3 (not (a && b)) then rest marks memory states held asked ≡ 0 → (length memory ≡ memoryAt marks 8) × (length states ≡ 4 * ones marks)
-    cases true ae true be e = (eqb-true _ _ ae, eqb-true _ _ be)
-    cases true ae false be e = let z : _≡_ {A = ℕ} 0 1 = cc in absurd (omega arith)
-    cases false ae b be e = let z : _≡_ {A = ℕ} 0 1 = cc in absurd (omega arith)
 
 -- what the desk turns down
 
@@ -129,7 +113,7 @@ module _ (list : List ℕ) (marks : ℕ) (memory states held : List ℕ) (asked 
           seen = omega arith
 
           wide : (length memory ≡ memoryAt marks 8) × (length states ≡ 4 * ones marks)
-          wide = board-fits marks memory states held asked (sym board ∙ fine)
+          wide = board-lengths marks memory states held asked (sym board ∙ fine)
 
           pub begun-sound : Sound begun memory
           begun-sound = record { few = few; fits = ap (λ (n : ℕ). offset n xs) count ∙ loaded-fits marks memory states xs loaded seen ∙ sym (wide .0) }

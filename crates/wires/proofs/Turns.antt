@@ -7,16 +7,16 @@ use mathlib.Core.Path.{_≡_, refl, ap, ap₂, sym, _∙_}
 use mathlib.Core.Bool.{Bool, true, false, _&&_}
 use mathlib.Core.List.{List, [], _∷_, map}
 use lib.ListN.{length, set}
+use Rattle.lent.specs.Areas.{over}
+use Rattle.lent.proofs.Rows.{overFrom, one-byte, all-bytes, from-front}
 use Rattle.lines.specs.Levels.{byteOf}
 use Rattle.lines.specs.Events.{eventOf}
-use Rattle.lent.specs.Areas.{over}
 use Rattle.lines.specs.declared.Lines.{Lines}
 use Rattle.lines.specs.declared.Eye.{Eye}
 use Rattle.symbols.specs.Symbols.{drives, isOver}
 use Rattle.symbols.specs.Ticks.{Control}
 use Rattle.controller.specs.Cursor.{Spot, places}
 use Rattle.eeprom.specs.Stages.{Body, bodyTick, sdaOf}
-use Rattle.lent.proofs.Rows.{overFrom, one-byte, all-bytes, from-front}
 use Rattle.board.specs.Seats.{Seated, bodyOf, allUp}
 use Rattle.wires.specs.Holding.{Holding}
 use Rattle.wires.specs.Wires as Wires

@@ -12,11 +12,11 @@ use Rattle.lines.specs.declared.Noted.{Noted}
 use Rattle.lines.specs.declared.Event.the-variants.{Quiet}
 use Rattle.symbols.specs.Faults.{faultOf}
 use Rattle.symbols.specs.Ticks.{controlTick}
-use Rattle.controller.specs.Cursor.{places}
 use Rattle.symbols.specs.declared.Begin.the-variants.{First}
 use Rattle.symbols.specs.declared.Symbol.the-variants.{Start}
 use Rattle.symbols.specs.declared.Phase.{Phase}
 use Rattle.symbols.specs.declared.Phase.the-variants.{Over, Waiting, Zero, One, Two, Three}
+use Rattle.controller.specs.Cursor.{places}
 use Rattle.controller.specs.declared.Cursor.{Cursor}
 use Rattle.board.specs.Seats.{Seated, allUp}
 use Rattle.board.proofs.Heard.{none-heard}

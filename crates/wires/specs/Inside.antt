@@ -5,16 +5,16 @@ use mathlib.Core.Bool.{cond}
 use mathlib.Core.List.{List, map}
 use lib.Dec.{eqb}
 use lib.ListN.{length, set, drop}
-use Rattle.lines.specs.Events.{eyeAfter}
 use Rattle.lent.specs.Areas.{over}
+use Rattle.lines.specs.Events.{eyeAfter}
 use Rattle.lines.specs.declared.Lines.{Lines}
 use Rattle.symbols.specs.Symbols.{drives}
 use Rattle.symbols.specs.Ticks.{controlTick}
-use Rattle.controller.specs.Cursor.{Spot, places, controlOf}
 use Rattle.symbols.specs.declared.Begin.the-variants.{First}
 use Rattle.symbols.specs.declared.Symbol.the-variants.{Start}
 use Rattle.symbols.specs.declared.Phase.{Phase}
 use Rattle.symbols.specs.declared.Phase.the-variants.{Over, Waiting, Zero, One, Two, Three}
+use Rattle.controller.specs.Cursor.{Spot, places, controlOf}
 use Rattle.board.specs.Seats.{Seated, bodyOf}
 use Rattle.wires.specs.Holding.{Holding, holdTick}
 use Rattle.wires.specs.Wires as Wires

@@ -1,15 +1,15 @@
 -- `board::seat_at` meets its contract. Assumes nothing.
 use denote.Ref.{now}
 use mathlib.Core.Path.{refl}
-use Rattle.board.proofs.Loading.{seat-so}
 use borrow.Author.Needs.{needs}
+use Rattle.store.proofs.Store.at_rest.Reads as at-rest-reads
+use Rattle.eeprom.proofs.word_at.Reads as word-at-reads
+use Rattle.board.proofs.Loading.{seat-so}
 use Rattle.board.proofs.seat_at.Statement.{statement}
 use Rattle.board.proofs.seat_at.Tie as tie
 use Rattle.board.proofs.seat_at.Reads as reads
 use Rattle.board.proofs.seat_at.Lts as lts
 use Rattle.board.proofs.place_of.Reads as place-of-reads
-use Rattle.store.proofs.Store.at_rest.Reads as at-rest-reads
-use Rattle.eeprom.proofs.word_at.Reads as word-at-reads
 
 -- src/lib.rt:80:17
 place-of-requires : tie.Need-place-of-requires

@@ -1,8 +1,8 @@
 -- The entry `reading::read` meets its contract: one equation for all input. Assumes nothing.
 use denote.Ref.{now}
+use borrow.Author.Needs.{needs}
 use Rattle.plain.proofs.Counting.{unmapped}
 use Rattle.reading.proofs.Entry.{too-long, not-of-the-form, board-wrong, area-too-small, begun-sound, short, row-long, ran-so}
-use borrow.Author.Needs.{needs}
 use Rattle.reading.proofs.read.Statement.{statement}
 use Rattle.reading.proofs.read.Tie as tie
 

@@ -1,13 +1,13 @@
 -- `board::Seat::hear` meets its contract. Assumes nothing.
-use Rattle.board.proofs.Heard.{heard-so}
 use borrow.Author.Needs.{needs}
+use Rattle.eeprom.proofs.Chip.due.Reads as due-reads
+use Rattle.eeprom.proofs.Chip.hear.Reads as hear-reads
+use Rattle.board.proofs.Heard.{heard-so}
 use Rattle.board.proofs.Seat.hear.Statement.{statement}
 use Rattle.board.proofs.Seat.hear.Tie as tie
 use Rattle.board.proofs.Seat.hear.Reads as reads
 use Rattle.board.proofs.Seat.hear.Lts as lts
 use Rattle.board.proofs.free_after.Reads as free-after-reads
-use Rattle.eeprom.proofs.Chip.due.Reads as due-reads
-use Rattle.eeprom.proofs.Chip.hear.Reads as hear-reads
 
 -- src/lib.rt:66:31
 due-requires : tie.Need-due-requires

@@ -3,9 +3,9 @@ use Prim.Native.Nat.{_≤_, _-_}
 use borrow.Author.Needs.{needs}
 use lib.ListN.{length}
 use mathlib.Core.Path.{_≡_}
-use Rattle.lone_chip.proofs.Entry.{turn}
 use Rattle.lines.proofs.Records.{leaves, walked, drove}
 use Rattle.lone_chip.specs.Alone.{watchOf, chip}
+use Rattle.lone_chip.proofs.Entry.{turn}
 use Rattle.lone_chip.proofs.Watch.runs.Statement.{statement}
 use Rattle.lone_chip.proofs.Watch.runs.Tie as tie
 

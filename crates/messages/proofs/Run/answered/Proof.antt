@@ -1,7 +1,7 @@
 -- `messages::Run::answered` meets its contract. Assumes nothing.
 use denote.Ref.{now}
-use Rattle.messages.proofs.Going.{answered-so}
 use borrow.Author.Needs.{needs}
+use Rattle.messages.proofs.Going.{answered-so}
 use Rattle.messages.proofs.Run.answered.Statement.{statement}
 use Rattle.messages.proofs.Run.answered.Tie as tie
 

@@ -1,6 +1,6 @@
 -- `messages::Run::closes` meets its contract. Assumes nothing.
-use Rattle.messages.proofs.Going.{closed-so}
 use borrow.Author.Needs.{needs}
+use Rattle.messages.proofs.Going.{closed-so}
 use Rattle.messages.proofs.Run.closes.Statement.{statement}
 use Rattle.messages.proofs.Run.closes.Tie as tie
 

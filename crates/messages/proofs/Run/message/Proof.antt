@@ -1,8 +1,8 @@
 -- `messages::Run::message` meets its contract. Assumes nothing.
 use denote.Ref.{now}
 use borrow.Author.Tests.{not-true, not-false}
-use Rattle.messages.proofs.Messages.{few-read, nobody, wrote, did-read}
 use borrow.Author.Needs.{needs}
+use Rattle.messages.proofs.Messages.{few-read, nobody, wrote, did-read}
 use Rattle.messages.proofs.Run.message.Statement.{statement}
 use Rattle.messages.proofs.Run.message.Tie as tie
 

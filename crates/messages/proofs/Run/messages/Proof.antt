@@ -2,12 +2,12 @@
 use Prim.Native.Nat.{_+_, _*_, _-_, _≤_}
 use mathlib.Core.Path.{_≡_, refl, _∙_}
 use lib.ListN.{length}
+use borrow.Author.Needs.{needs}
 use Rattle.plain.specs.Plain.{messages}
 use Rattle.messages.specs.Inside.{worldOf, Sound}
 use Rattle.messages.specs.Along.{slotsAt, slotOf, beyond}
 use Rattle.messages.proofs.Going.{still-sound}
 use Rattle.messages.proofs.Messages.{Sending, last-one, given-up, next-one}
-use borrow.Author.Needs.{needs}
 use Rattle.messages.proofs.Run.messages.Statement.{statement}
 use Rattle.messages.proofs.Run.messages.Tie as tie
 

@@ -1,7 +1,7 @@
 -- `messages::Run::opens` meets its contract. Assumes nothing.
 use mathlib.Core.Path.{refl}
-use Rattle.messages.proofs.Going.{all-start}
 use borrow.Author.Needs.{needs}
+use Rattle.messages.proofs.Going.{all-start}
 use Rattle.messages.proofs.Run.opens.Statement.{statement}
 use Rattle.messages.proofs.Run.opens.Tie as tie
 

@@ -2,11 +2,11 @@
 use Prim.Native.Nat.{_+_, _*_, _≤_}
 use mathlib.Core.Path.{_≡_, refl, _∙_}
 use lib.ListN.{length}
+use borrow.Author.Needs.{needs}
 use Rattle.plain.specs.Plain.{listens, readsAll}
 use Rattle.messages.specs.Inside.{byteMost, worldOf, Sound}
 use Rattle.messages.proofs.Going.{still-sound}
 use Rattle.messages.proofs.Bytewise.{Reading, one-read, first-read, all-read}
-use borrow.Author.Needs.{needs}
 use Rattle.messages.proofs.Run.reads.Statement.{statement}
 use Rattle.messages.proofs.Run.reads.Tie as tie
 

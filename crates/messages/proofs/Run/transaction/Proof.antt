@@ -1,9 +1,9 @@
 -- `messages::Run::transaction` meets its contract. Assumes nothing.
 use denote.Ref.{now}
+use borrow.Author.Needs.{needs}
 use Rattle.messages.proofs.Going.{opened-sound}
 use Rattle.messages.proofs.Walking.{opened-near}
 use Rattle.messages.proofs.Transactions.{whole-so}
-use borrow.Author.Needs.{needs}
 use Rattle.messages.proofs.Run.transaction.Statement.{statement}
 use Rattle.messages.proofs.Run.transaction.Tie as tie
 

@@ -2,12 +2,12 @@
 use Prim.Native.Nat.{suc, _*_, _-_, _≤_}
 use mathlib.Core.Path.{_≡_, refl, _∙_}
 use lib.ListN.{length}
+use borrow.Author.Needs.{needs}
 use Rattle.orders.proofs.KindLaws.{most-bytes}
 use Rattle.plain.specs.Plain.{transactions}
 use Rattle.messages.specs.Inside.{transactionMost, worldOf, Sound}
 use Rattle.messages.specs.Along.{batchesAt}
 use Rattle.messages.proofs.Transactions.{Leaves, none-yet, one-done, all-done}
-use borrow.Author.Needs.{needs}
 use Rattle.messages.proofs.Run.transactions.Statement.{statement}
 use Rattle.messages.proofs.Run.transactions.Tie as tie
 

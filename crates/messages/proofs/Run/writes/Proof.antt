@@ -2,12 +2,12 @@
 use Prim.Native.Nat.{_+_, _*_, _-_, _≤_}
 use mathlib.Core.Path.{_≡_, refl, _∙_}
 use lib.ListN.{length}
+use borrow.Author.Needs.{needs}
 use Rattle.plain.specs.Plain.{listens, writesAll}
 use Rattle.messages.specs.Inside.{byteMost, worldOf, Sound}
 use Rattle.messages.specs.Along.{bytesAt}
 use Rattle.messages.proofs.Going.{still-sound}
 use Rattle.messages.proofs.Bytewise.{Writing, none-written, one-written, all-written}
-use borrow.Author.Needs.{needs}
 use Rattle.messages.proofs.Run.writes.Statement.{statement}
 use Rattle.messages.proofs.Run.writes.Tie as tie
 

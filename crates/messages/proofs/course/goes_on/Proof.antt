@@ -1,6 +1,6 @@
 -- `messages::goes_on` meets its contract. Assumes nothing.
-use Rattle.messages.proofs.Walking.{not-critical}
 use borrow.Author.Needs.{needs}
+use Rattle.messages.proofs.Walking.{not-critical}
 use Rattle.messages.proofs.course.goes_on.Statement.{statement}
 use Rattle.messages.proofs.course.goes_on.Tie as tie
 

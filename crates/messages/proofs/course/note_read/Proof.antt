@@ -1,6 +1,6 @@
 -- `messages::note_read` meets its contract. Assumes nothing.
-use Rattle.messages.proofs.Bytewise.{read-noted}
 use borrow.Author.Needs.{needs}
+use Rattle.messages.proofs.Bytewise.{read-noted}
 use Rattle.messages.proofs.course.note_read.Statement.{statement}
 use Rattle.messages.proofs.course.note_read.Tie as tie
 

@@ -1,7 +1,7 @@
 -- `messages::places::beyond` meets its contract. Assumes nothing.
 use denote.Ref.{now}
-use Rattle.messages.proofs.Walking.{beyond-so}
 use borrow.Author.Needs.{needs}
+use Rattle.messages.proofs.Walking.{beyond-so}
 use Rattle.messages.proofs.places.beyond.Statement.{statement}
 use Rattle.messages.proofs.places.beyond.Tie as tie
 

@@ -1,9 +1,9 @@
 -- `messages::places::next_batch` meets its contract, message after message. Assumes nothing.
 use Prim.Native.Nat.{_+_, _*_, _-_, _≤_}
 use mathlib.Core.Path.{_≡_, refl}
+use borrow.Author.Needs.{needs}
 use Rattle.messages.specs.Along.{after}
 use Rattle.messages.proofs.Walking.{opened-near, one-passed, all-passed, next-so}
-use borrow.Author.Needs.{needs}
 use Rattle.messages.proofs.places.next_batch.Statement.{statement}
 use Rattle.messages.proofs.places.next_batch.Tie as tie
 

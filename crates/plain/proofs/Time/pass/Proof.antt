@@ -1,6 +1,6 @@
 -- `plain::Time::pass` meets its contract. Assumes nothing.
-use Rattle.plain.proofs.Ticking.{passed}
 use borrow.Author.Needs.{needs}
+use Rattle.plain.proofs.Ticking.{passed}
 use Rattle.plain.proofs.Time.pass.Statement.{statement}
 use Rattle.plain.proofs.Time.pass.Tie as tie
 

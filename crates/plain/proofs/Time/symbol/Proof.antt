@@ -1,8 +1,8 @@
 -- `plain::Time::symbol` meets its contract. Assumes nothing.
 use mir.Facts.{fits-8-64}
 use native.Mathlib.Omega.{arith}
-use Rattle.plain.proofs.Ticking.{symbol-held, symbol-free}
 use borrow.Author.Needs.{needs}
+use Rattle.plain.proofs.Ticking.{symbol-held, symbol-free}
 use Rattle.plain.proofs.Time.symbol.Statement.{statement}
 use Rattle.plain.proofs.Time.symbol.Tie as tie
 

@@ -1,10 +1,10 @@
 -- `plain::Time::symbols` meets its contract, symbol after symbol. Assumes nothing.
 use Prim.Native.Nat.{_+_, _*_, _-_, _≤_}
 use mathlib.Core.Path.{_≡_}
+use borrow.Author.Needs.{needs}
 use Rattle.plain.specs.Clock.{symbols}
 use Rattle.plain.specs.Inside.{symbolMost, timeOf}
 use Rattle.plain.proofs.Ticking.{none-gone, symbol-more, symbols-gone}
-use borrow.Author.Needs.{needs}
 use Rattle.plain.proofs.Time.symbols.Statement.{statement}
 use Rattle.plain.proofs.Time.symbols.Tie as tie
 

@@ -2,10 +2,10 @@
 use Prim.Native.Nat.{_-_, _≤_}
 use mathlib.Core.Path.{_≡_}
 use lib.ListN.{length}
+use borrow.Author.Needs.{needs}
 use Rattle.board.proofs.Done.{done, done-step}
 use Rattle.plain.specs.Inside.{seatMoves}
 use Rattle.plain.proofs.Cells.{none-done, all-moved, all-fit}
-use borrow.Author.Needs.{needs}
 use Rattle.plain.proofs.chips.all_move.Statement.{statement}
 use Rattle.plain.proofs.chips.all_move.Tie as tie
 

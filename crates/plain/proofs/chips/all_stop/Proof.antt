@@ -2,10 +2,10 @@
 use Prim.Native.Nat.{_-_, _≤_}
 use mathlib.Core.Path.{_≡_, refl, _∙_}
 use lib.ListN.{length}
+use borrow.Author.Needs.{needs}
 use Rattle.board.specs.Seats.{offset}
 use Rattle.plain.proofs.Cells.{first-part, part-within}
 use Rattle.plain.proofs.Stopping.{Stopped, none-stopped, one-stopped, all-stopped}
-use borrow.Author.Needs.{needs}
 use Rattle.plain.proofs.chips.all_stop.Statement.{statement}
 use Rattle.plain.proofs.chips.all_stop.Tie as tie
 

@@ -3,10 +3,10 @@ use Prim.Native.Nat.{ℕ, _-_, _≤_}
 use mathlib.Core.Path.{_≡_, refl}
 use mathlib.Core.List.{List}
 use lib.ListN.{drop}
+use borrow.Author.Needs.{needs}
 use Rattle.plain.specs.Plain.{listens, anyOf}
 use Rattle.plain.specs.Inside.{cellsOf}
 use Rattle.plain.proofs.Cells.{one-listens, not-this-one, none-listens}
-use borrow.Author.Needs.{needs}
 use Rattle.plain.proofs.chips.any_listens.Statement.{statement}
 use Rattle.plain.proofs.chips.any_listens.Tie as tie
 

@@ -1,6 +1,6 @@
 -- `plain::chips::meant` meets its contract. Assumes nothing.
-use Rattle.plain.proofs.Deeds.{for-listeners, for-senders}
 use borrow.Author.Needs.{needs}
+use Rattle.plain.proofs.Deeds.{for-listeners, for-senders}
 use Rattle.plain.proofs.chips.meant.Statement.{statement}
 use Rattle.plain.proofs.chips.meant.Tie as tie
 

@@ -1,6 +1,6 @@
 -- `plain::chips::moved` meets its contract. Assumes nothing.
-use Rattle.plain.proofs.Deeds.{is-moved, not-moved}
 use borrow.Author.Needs.{needs}
+use Rattle.plain.proofs.Deeds.{is-moved, not-moved}
 use Rattle.plain.proofs.chips.moved.Statement.{statement}
 use Rattle.plain.proofs.chips.moved.Tie as tie
 

@@ -1,6 +1,6 @@
 -- `plain::chips::stopped` meets its contract. Assumes nothing.
-use Rattle.plain.proofs.Deeds.{is-stopped, stopped-size}
 use borrow.Author.Needs.{needs}
+use Rattle.plain.proofs.Deeds.{is-stopped, stopped-size}
 use Rattle.plain.proofs.chips.stopped.Statement.{statement}
 use Rattle.plain.proofs.chips.stopped.Tie as tie
 

@@ -1,6 +1,6 @@
 -- `plain::chips::store_does` meets its contract. Assumes nothing.
-use Rattle.plain.proofs.Deeds.{at-start, at-take, at-send}
 use borrow.Author.Needs.{needs}
+use Rattle.plain.proofs.Deeds.{at-start, at-take, at-send}
 use Rattle.plain.proofs.chips.store_does.Statement.{statement}
 use Rattle.plain.proofs.chips.store_does.Tie as tie
 

@@ -2,11 +2,11 @@
 use Prim.Native.Nat.{_-_, _≤_}
 use mathlib.Core.Path.{_≡_, refl}
 use lib.ListN.{drop}
+use borrow.Author.Needs.{needs}
 use Rattle.board.specs.Seats.{offset}
 use Rattle.plain.specs.Plain.{listens, valueOf}
 use Rattle.plain.specs.Inside.{cellsOf}
 use Rattle.plain.proofs.Cells.{first-part, next-part, part-within, this-value, not-this-value, no-value}
-use borrow.Author.Needs.{needs}
 use Rattle.plain.proofs.chips.value_of.Statement.{statement}
 use Rattle.plain.proofs.chips.value_of.Tie as tie
 

@@ -3,8 +3,8 @@ use Prim.Native.Nat.{_≤_, _-_}
 use borrow.Author.Needs.{needs}
 use lib.ListN.{length}
 use mathlib.Core.Path.{_≡_}
-use Rattle.store.proofs.Takes.{none-yet, one-more, all-stored}
 use Rattle.store.specs.Keeping.{stored}
+use Rattle.store.proofs.Takes.{none-yet, one-more, all-stored}
 use Rattle.store.proofs.Store.stores.Statement.{statement}
 use Rattle.store.proofs.Store.stores.Tie as tie
 
