@@ -10,7 +10,7 @@ use lib.ListN.{length}
 use Rattle.lent.specs.Refusals.{no, _then_}
 use Rattle.lent.specs.Areas.{allWithin}
 use Rattle.lines.specs.Levels.{mostHeld}
-use Rattle.orders.specs.Kinds.{addressRight}
+use Rattle.kinds.specs.Kinds.{addressRight}
 use Rattle.orders.specs.Form.{Message, Transaction}
 use Rattle.orders.specs.Results.{areaOf, slotsOf, slotted, batches, checkOf, listNumber}
 use Rattle.eeprom.specs.States.{mostBusy}

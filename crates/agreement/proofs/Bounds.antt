@@ -7,7 +7,7 @@ use native.Mathlib.Omega.{arith}
 use native.Mathlib.Nat.{mul-le-mul-left}
 use lib.ListN.{length, drop}
 use Rattle.lines.specs.Levels.{mostHeld}
-use Rattle.orders.specs.Kinds.{isWrite, isCritical, dataOf, askedOf, quotaOf}
+use Rattle.kinds.specs.Kinds.{isWrite, isCritical, dataOf, askedOf, quotaOf}
 use Rattle.orders.specs.Form.{Message, Transaction}
 use Rattle.orders.specs.Asking.{put, get, orderOf}
 use Rattle.orders.specs.Results.{Batch, slotsOf, slotted, batches}

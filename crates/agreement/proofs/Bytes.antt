@@ -8,10 +8,10 @@ use borrow.Author.Tests.{ne-eqb}
 use lib.Dec.{eqb}
 use Rattle.lines.specs.Levels.{bitAt, shifted}
 use Rattle.lines.specs.declared.Event.the-variants.{Bit}
-use Rattle.orders.specs.Kinds.{follow}
+use Rattle.kinds.specs.Kinds.{follow}
+use Rattle.kinds.specs.declared.Quota.{Quota}
 use Rattle.orders.specs.Asking.{addressByte}
 use Rattle.orders.specs.Marks.{written, readMark}
-use Rattle.orders.specs.declared.Quota.{Quota}
 use Rattle.controller.specs.Plan.{Context, State, addressing, addressed, writing, wrote, reading, answering, marked, writes, reads, step, orders, does as doing}
 use Rattle.store.specs.Keeping.{takes, steps}
 use Rattle.eeprom.specs.Stages.{named, hears, sdaOf}

@@ -8,12 +8,12 @@ use native.Mathlib.Numerals.{add-one}
 use native.Mathlib.Nat.{zero-add, add-zero}
 use lib.ListN.{length, getD, set, length-set}
 use lib.Seq.{getD-set-same, getD-set-other}
-use Rattle.orders.specs.Kinds.{isWrite, askedOf, quotaOf, follow, remain}
+use Rattle.kinds.specs.Kinds.{isWrite, askedOf, quotaOf, follow, remain}
+use Rattle.kinds.specs.declared.Quota.{Quota}
 use Rattle.orders.specs.Form.{Message}
 use Rattle.orders.specs.Asking.{Order, put, get, orderOf}
 use Rattle.orders.specs.Results.{Slotted, slotsOf}
 use Rattle.orders.specs.Marks.{written, readMark, note}
-use Rattle.orders.specs.declared.Quota.{Quota}
 use Rattle.store.specs.Keeping.{takes}
 use Rattle.plain.specs.Plain.{Cell, World, valueOf, byteGoes, writesAll, readsAll, readsOne, carried, listening, answered, addressed, messageIf, message}
 use Rattle.agreement.proofs.Quotas.{quota-fits}

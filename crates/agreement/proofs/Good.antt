@@ -8,10 +8,10 @@ use native.Mathlib.Omega.{arith}
 use borrow.Author.Tests.{eqb-true, ltb-true}
 use lib.Dec.{eqb, ltb}
 use lib.ListN.{getD, set}
-use Rattle.orders.specs.Kinds.{isCritical, remain}
+use Rattle.kinds.specs.Kinds.{isCritical, remain}
+use Rattle.kinds.specs.declared.Quota.{Quota}
 use Rattle.orders.specs.Asking.{Order, put, get, orderOf}
 use Rattle.orders.specs.Results.{Slotted}
-use Rattle.orders.specs.declared.Quota.{Quota}
 use Rattle.store.specs.Pages.{pageStart}
 use Rattle.store.specs.Keeping.{Kept, geo, takesAt, takes, byteNow, steps, starts, stored, stops}
 use Rattle.store.specs.declared.Store.{Store}

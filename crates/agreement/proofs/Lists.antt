@@ -4,7 +4,7 @@ use mathlib.Core.Path.{_≡_, refl, ap, _∙_, subst}
 use mathlib.Core.Bool.{Bool, true, false, _||_, not, cond}
 use mathlib.Core.List.{List, [], _∷_, _++_, map}
 use Rattle.lines.specs.declared.Event.the-variants.{Started}
-use Rattle.orders.specs.Kinds.{isCritical}
+use Rattle.kinds.specs.Kinds.{isCritical}
 use Rattle.orders.specs.Results.{Slotted, Batch}
 use Rattle.orders.specs.Marks.{Log}
 use Rattle.controller.specs.Plan.{Context, State, addressing, closing, reopening, opens, orders, does as doing}

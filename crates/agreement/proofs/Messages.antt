@@ -5,11 +5,11 @@ use mathlib.Core.Bool.{Bool, true, false, not, cond}
 use mathlib.Core.List.{List, [], _∷_, map}
 use native.Mathlib.Omega.{arith}
 use lib.Dec.{eqb}
-use Rattle.orders.specs.Kinds.{isWrite, follow, remain, quotaOf}
+use Rattle.kinds.specs.Kinds.{isWrite, follow, remain, quotaOf}
+use Rattle.kinds.specs.declared.Quota.{Quota}
 use Rattle.orders.specs.Form.{Message}
 use Rattle.orders.specs.Asking.{put, get, addressByte}
 use Rattle.orders.specs.Marks.{heard, written, readMark}
-use Rattle.orders.specs.declared.Quota.{Quota}
 use Rattle.controller.specs.Plan.{Context, State, addressing, addressed, writing, wrote, reading, answering, logged, marked, goOn, refused, writes, reads, carries, step, orders, does as doing}
 use Rattle.store.specs.Keeping.{takes, steps}
 use Rattle.eeprom.specs.Stages.{sdaOf}

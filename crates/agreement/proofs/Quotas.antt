@@ -5,8 +5,8 @@ use mathlib.Core.Bool.{true, false, and-eq-true-iff}
 use native.Mathlib.Omega.{arith}
 use borrow.Author.Tests.{leb-true}
 use lib.Dec.{leb}
-use Rattle.orders.specs.Kinds.{isWrite, lengthRight, askedOf, quotaOf, follow, remain}
-use Rattle.orders.specs.declared.Quota.{Quota}
+use Rattle.kinds.specs.Kinds.{isWrite, lengthRight, askedOf, quotaOf, follow, remain}
+use Rattle.kinds.specs.declared.Quota.{Quota}
 
 -- the next byte's quota leaves as many as it was made for
 pub follow-remain : (q : Quota) (n y : ℕ) → follow (remain q n) y ≡ n

@@ -8,7 +8,7 @@ use native.Mathlib.Omega.{arith}
 use borrow.Author.Tests.{leb-true}
 use lib.Dec.{ltb, leb}
 use lib.ListN.{length, getD, take, drop, length-take, length-drop}
-use Rattle.orders.specs.Kinds.{addressRight, kindRight, lengthRight, countRight, dataOf}
+use Rattle.kinds.specs.Kinds.{addressRight, kindRight, lengthRight, countRight, dataOf}
 use Rattle.orders.specs.Form.{Message, Transaction, Read, whole, broken, breaks, cut, messageAt, Parsed, right, wrong, after, andMessage, andTransaction, waitAt, beginAt, parse, parsed, transactionsIn, transactionsOf}
 use Rattle.orders.specs.Bytes.{RightMessage}
 use Rattle.orders.specs.declared.Rule.{Rule}

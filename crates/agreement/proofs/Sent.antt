@@ -8,7 +8,7 @@ use native.Mathlib.Omega.{arith}
 use lib.Dec.{eqb}
 use lib.ListN.{length, getD, set}
 use lib.Seq.{getD-set-same, getD-set-other}
-use Rattle.orders.specs.Kinds.{isCritical}
+use Rattle.kinds.specs.Kinds.{isCritical}
 use Rattle.orders.specs.Form.{Message, Transaction}
 use Rattle.orders.specs.Asking.{orderOf}
 use Rattle.orders.specs.Results.{Slotted, slotsOf, slotsOfAll, slotted}

@@ -7,10 +7,10 @@ use native.Mathlib.Omega.{arith}
 use native.Mathlib.Nat.{zero-add, suc-add}
 use lib.ListN.{length, drop}
 use Rattle.lines.specs.Levels.{mostHeld}
-use Rattle.orders.specs.Kinds.{isCritical, follow, remain}
+use Rattle.kinds.specs.Kinds.{isCritical, follow, remain}
+use Rattle.kinds.specs.declared.Quota.{Quota}
 use Rattle.orders.specs.Asking.{Order, put, get, orderOf}
 use Rattle.orders.specs.Results.{Slotted, Batch}
-use Rattle.orders.specs.declared.Quota.{Quota}
 use Rattle.wires.specs.Holding.{firstHold, laterHolds}
 use Rattle.plain.specs.Clock.{Clock, symbol, symbols, pass}
 use Rattle.plain.specs.Plain.{Cell, World, valueOf, writesAll, readsAll, carried, listening, answered, addressed, messageIf, message, started, messages}

@@ -4,7 +4,7 @@ use mathlib.Core.Bool.{Bool, _||_, not, cond}
 use mathlib.Core.List.{List, [], _∷_}
 use lib.Dec.{eqb}
 use lib.ListN.{getD, drop}
-use Rattle.orders.specs.Kinds.{isCritical}
+use Rattle.kinds.specs.Kinds.{isCritical}
 use Rattle.orders.specs.Results.{Slotted, Batch}
 use Rattle.wires.specs.Holding.{firstHold, laterHolds}
 

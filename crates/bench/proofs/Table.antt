@@ -6,7 +6,7 @@ use lib.Count.{ones}
 use lib.ListN.{length, replicate}
 use Rattle.lent.specs.Areas.{over, allWithin}
 use Rattle.lines.specs.Levels.{bitAt, mostHeld}
-use Rattle.orders.specs.Kinds.{mostBytes, mostMessages, mostLength, isWrite, isCritical, kindRight, addressRight, countRight, lengthRight, dataOf, askedOf, quotaOf, follow, remain}
+use Rattle.kinds.specs.Kinds.{mostBytes, mostMessages, mostLength, isWrite, isCritical, kindRight, addressRight, countRight, lengthRight, dataOf, askedOf, quotaOf, follow, remain}
 use Rattle.orders.specs.Form.{messageAt, parse, parsed, transactionsOf}
 use Rattle.orders.specs.Results.{slotsOfAll, areaOf, blankArea, startArea, slotted, batches, checkOf}
 use Rattle.orders.specs.Marks.{readMark, note}

@@ -7,12 +7,12 @@ use mathlib.Core.Bool.{Bool, true, false}
 use mathlib.Core.List.{List}
 use lib.ListN.{length}
 use Rattle.lines.specs.Levels.{mostHeld}
+use Rattle.kinds.proofs.KindLaws.{few-data, few-asked, most-bytes}
 use Rattle.orders.specs.Form.{Message, Transaction, whole, messageAt, transactionsOf}
 use Rattle.orders.specs.Bytes.{Bytes}
 use Rattle.orders.specs.Results.{checkOf}
 use Rattle.orders.specs.Places.{Stands, ended, begins, follows}
 use Rattle.orders.specs.declared.Checked.the-variants.{Accepted}
-use Rattle.orders.proofs.KindLaws.{few-data, few-asked, most-bytes}
 use Rattle.orders.proofs.Stands.{holds}
 use Rattle.orders.proofs.WholeMessage.{message-inv}
 use Rattle.symbols.specs.Symbols.{isOver}

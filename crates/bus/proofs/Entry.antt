@@ -14,7 +14,7 @@ use Rattle.lent.specs.Refusals.{no, _then_}
 use Rattle.lines.specs.Events.{opened}
 use Rattle.lines.specs.declared.Lines.{Lines}
 use Rattle.lines.specs.declared.Eye.{Eye}
-use Rattle.orders.specs.Kinds.{mostBytes}
+use Rattle.kinds.specs.Kinds.{mostBytes}
 use Rattle.orders.specs.Form.{transactionsOf}
 use Rattle.orders.specs.Bytes.{Bytes}
 use Rattle.orders.specs.Results.{areaOf, batches, checkOf, startArea}
@@ -26,9 +26,10 @@ use Rattle.orders.specs.declared.Checked.the-variants.{Accepted, TooLong, Broke
 use Rattle.orders.proofs.Stands.{holds}
 use Rattle.orders.proofs.Starts.{starts}
 use Rattle.symbols.specs.Ticks.{Control, controlTick}
+use Rattle.cursor.specs.Cursor.{Spot, places, opensAt}
 use Rattle.controller.specs.Plan.{State, orders, opens}
 use Rattle.controller.specs.Bound.{mostTicks}
-use Rattle.controller.specs.Cursor.{Spot, places, opensAt, controlOf, firstOf}
+use Rattle.controller.specs.Inside.{controlOf, firstOf}
 use Rattle.controller.specs.Alone.{atFirst}
 use Rattle.controller.specs.declared.Controller.{Controller}
 use Rattle.controller.proofs.Matches.{Matches, begun-matches, tick-matches}

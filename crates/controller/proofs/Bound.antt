@@ -11,15 +11,15 @@ use lib.ListN.{length, take, drop, length-take, length-drop}
 use Rattle.lines.specs.Levels.{released, linesOf, mostHeld}
 use Rattle.lines.specs.Records.{walk}
 use Rattle.lines.specs.declared.Lines.{Lines}
-use Rattle.orders.specs.Kinds.{isWrite, isCritical, lengthRight, dataOf, askedOf, quotaOf, follow, remain}
+use Rattle.kinds.specs.Kinds.{isWrite, isCritical, lengthRight, dataOf, askedOf, quotaOf, follow, remain}
+use Rattle.kinds.specs.declared.Quota.{Quota}
+use Rattle.kinds.proofs.KindLaws.{some-asked}
 use Rattle.orders.specs.Form.{Message, Transaction, whole, messageAt, transactionsOf}
 use Rattle.orders.specs.Places.{Stands, ended, begins, follows}
 use Rattle.orders.specs.Asking.{Order, put, get, orderOf}
 use Rattle.orders.specs.Results.{Slotted, Batch, slotsOf, slotsOfAll, slotted, batches, startArea, checkOf}
 use Rattle.orders.specs.Marks.{Log}
-use Rattle.orders.specs.declared.Quota.{Quota}
 use Rattle.orders.specs.declared.Checked.the-variants.{Accepted}
-use Rattle.orders.proofs.KindLaws.{some-asked}
 use Rattle.orders.proofs.WholeMessage.{message-inv}
 use Rattle.orders.proofs.Stands.{holds}
 use Rattle.symbols.specs.Symbols.{drives, isOver}

@@ -18,10 +18,10 @@ use Rattle.orders.proofs.Stands.{holds}
 use Rattle.orders.proofs.Starts.{starts}
 use Rattle.symbols.specs.Ticks.{begun}
 use Rattle.symbols.specs.declared.Phase.{Phase}
+use Rattle.cursor.specs.Cursor.{opensAt, Spot, places}
 use Rattle.controller.specs.Plan.{State, orders, opens}
-use Rattle.controller.specs.Cursor.{opensAt, Spot, places, controlOf, firstOf}
+use Rattle.controller.specs.Inside.{controlOf, firstOf, ranOn, refusedAs}
 use Rattle.controller.specs.Alone.{endOf, atFirst, aloneNumber, Alone, ended, alone}
-use Rattle.controller.specs.Running.{ranOn, refusedAs}
 use Rattle.controller.specs.declared.Told.{Told}
 use Rattle.controller.proofs.Matches.{begun-matches, walk-matches, drives-match}
 use Rattle.controller.proofs.Simulation.{Same, asks-same, nexts-same, fails-same, starts-same}

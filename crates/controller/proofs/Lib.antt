@@ -1,6 +1,5 @@
 -- Laws by kind. The crates above cite Matches, Simulation and Bound.
 pub mod Ticking
-pub mod Walk
 pub mod Matches
 pub mod Simulation
 pub mod Record

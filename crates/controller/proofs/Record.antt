@@ -14,9 +14,9 @@ use Rattle.symbols.specs.declared.Fault.{Fault}
 use Rattle.symbols.specs.declared.Phase.{Phase}
 use Rattle.symbols.specs.declared.Phase.the-variants.{Over}
 use Rattle.symbols.proofs.Moves.{stays}
-use Rattle.controller.specs.Cursor.{Spot, places, controlOf, firstOf}
+use Rattle.cursor.specs.Cursor.{Spot, places}
+use Rattle.controller.specs.Inside.{controlOf, firstOf, ranOn}
 use Rattle.controller.specs.Alone.{party, endOf, Alone}
-use Rattle.controller.specs.Running.{ranOn}
 use Rattle.controller.specs.declared.Controller.{Controller}
 use Rattle.controller.specs.declared.End.{End}
 

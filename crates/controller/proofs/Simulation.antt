@@ -10,24 +10,24 @@ use lib.Dec.{eqb}
 use lib.ListN.{length, getD, take, drop}
 use lib.Seq.{drop-cons}
 use Rattle.lines.specs.Levels.{bitAt}
-use Rattle.orders.specs.Kinds.{mostBytes, isWrite, isCritical, addressRight, dataOf, quotaOf, follow, remain}
+use Rattle.kinds.specs.Kinds.{mostBytes, isWrite, isCritical, addressRight, dataOf, quotaOf, follow, remain}
+use Rattle.kinds.specs.declared.Quota.{Quota}
+use Rattle.kinds.proofs.KindLaws.{most-bytes, short-length, data-written, follow-remain}
 use Rattle.orders.specs.Form.{Message, Transaction, whole, messageAt}
 use Rattle.orders.specs.Asking.{put, get, orderOf, addressByte}
 use Rattle.orders.specs.Places.{Stands, ended, begins, follows, sizeAt, roomAt}
 use Rattle.orders.specs.Results.{Slotted, Batch, slotsOf, slotsOfAll, slotted, batches}
 use Rattle.orders.specs.Marks.{heard, written, closed, broke, readMark, Log, note}
-use Rattle.orders.specs.declared.Quota.{Quota}
-use Rattle.orders.proofs.KindLaws.{most-bytes, short-length, data-written, follow-remain}
 use Rattle.orders.proofs.WholeMessage.{message-inv, message-size, message-room, message-below, message-slots}
 use Rattle.symbols.specs.Faults.{outcomeOf}
 use Rattle.symbols.specs.Ticks.{clocked}
 use Rattle.symbols.specs.declared.Symbol.the-variants.{Sent}
 use Rattle.symbols.specs.declared.Fault.{Fault}
+use Rattle.cursor.specs.Cursor.{wrap, acts, carriesOn, addressAt, dataAt, passed, passedAll, goesOn, refusedBy, putsOn, getsOn, carriesOut, opensAt, opensAfter, stepIn, stepOf, noteIn, noteOf, askIn, askOf, Spot, places}
+use Rattle.cursor.specs.declared.Act.{Act}
+use Rattle.cursor.specs.declared.Act.the-variants.{Opens, Reopens, Closes, Finishes, Addresses, Hears, Puts, Awaits, Gets, Answers}
+use Rattle.cursor.specs.declared.Cursor.{Cursor}
 use Rattle.controller.specs.Plan.{Job, opening, reopening, closing, finished, addressing, addressed, writing, wrote, reading, answering, Context, State, asks, does, marked, goOn, refused, writes, reads, carries, opens, step, orders}
-use Rattle.controller.specs.Cursor.{wrap, acts, carriesOn, addressAt, dataAt, passed, passedAll, goesOn, refusedBy, putsOn, getsOn, carriesOut, opensAt, opensAfter, stepIn, stepOf, noteIn, noteOf, askIn, askOf, Spot, places}
-use Rattle.controller.specs.declared.Act.{Act}
-use Rattle.controller.specs.declared.Act.the-variants.{Opens, Reopens, Closes, Finishes, Addresses, Hears, Puts, Awaits, Gets, Answers}
-use Rattle.controller.specs.declared.Cursor.{Cursor}
 
 -- the same message is under way, and the same ones are to come
 pub record Here (list : List ℕ) (at left slot : ℕ) (m : Slotted) (todo : List Slotted) (after : List Batch) : Type 0 where

@@ -15,8 +15,9 @@ use Rattle.symbols.specs.declared.Fault.the-variants.{Clear}
 use Rattle.symbols.specs.declared.Phase.{Phase}
 use Rattle.symbols.specs.declared.Phase.the-variants.{Over}
 use Rattle.symbols.proofs.Moves.{clear-is, move-inside, move-last}
-use Rattle.controller.specs.Cursor.{nowhere, opensAt, stepOf, noteOf, askOf, Spot, places, controlOf, firstOf}
-use Rattle.controller.specs.declared.Cursor.{Cursor}
+use Rattle.cursor.specs.Cursor.{nowhere, opensAt, stepOf, noteOf, askOf, Spot, places}
+use Rattle.cursor.specs.declared.Cursor.{Cursor}
+use Rattle.controller.specs.Inside.{controlOf, firstOf}
 use Rattle.controller.specs.declared.Controller.{Controller}
 
 -- the tick in the code's words

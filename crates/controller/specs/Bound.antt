@@ -3,7 +3,7 @@
 use Prim.Native.Nat.{ℕ, _+_, _*_}
 use mathlib.Core.List.{List, [], _∷_}
 use Rattle.lines.specs.Levels.{mostHeld}
-use Rattle.orders.specs.Kinds.{dataOf, askedOf}
+use Rattle.kinds.specs.Kinds.{dataOf, askedOf}
 use Rattle.orders.specs.Form.{Message, Transaction}
 
 -- the address byte and the data bytes: a message has those of a write or those of a read

@@ -1,5 +1,4 @@
 pub mod Plan
-pub mod Cursor
 pub mod Bound
 pub mod Alone
-pub mod Running
+pub mod Inside

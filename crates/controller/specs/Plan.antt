@@ -5,11 +5,11 @@ use mathlib.Core.Bool.{Bool, true, false, cond}
 use mathlib.Core.List.{List, [], _∷_}
 use lib.Dec.{eqb}
 use Rattle.lines.specs.Levels.{bitAt, shifted}
-use Rattle.orders.specs.Kinds.{isCritical, follow, remain}
+use Rattle.kinds.specs.Kinds.{isCritical, follow, remain}
+use Rattle.kinds.specs.declared.Quota.{Quota}
 use Rattle.orders.specs.Asking.{Order, put, get, orderOf, addressByte}
 use Rattle.orders.specs.Results.{Slotted, Batch}
 use Rattle.orders.specs.Marks.{Mark, heard, written, closed, broke, readMark, Log, note}
-use Rattle.orders.specs.declared.Quota.{Quota}
 use Rattle.symbols.specs.Faults.{outcomeOf}
 use Rattle.symbols.specs.Ticks.{Ask, first, clocked, end, Plan}
 use Rattle.symbols.specs.declared.Begin.the-variants.{Repeated}

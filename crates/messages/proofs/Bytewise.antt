@@ -7,10 +7,10 @@ use mathlib.Core.Path.{_≡_, ap, ap₂, _∙_}
 use mathlib.Core.Bool.{true}
 use mathlib.Core.List.{List}
 use lib.ListN.{getD, set}
-use Rattle.orders.specs.Kinds.{follow, remain}
+use Rattle.kinds.specs.Kinds.{follow, remain}
+use Rattle.kinds.specs.declared.Quota.{Quota}
 use Rattle.orders.specs.Asking.{get}
 use Rattle.orders.specs.Marks.{written, noteArea, readMark}
-use Rattle.orders.specs.declared.Quota.{Quota}
 use Rattle.store.specs.Keeping.{steps}
 use Rattle.plain.specs.Plain.{World, listens, byteGoes, valueOf, writesAll, readsOne, readsAll, carried}
 use Rattle.plain.specs.Inside.{cellsOf}

@@ -7,7 +7,7 @@ use mathlib.Core.List.{List, [], _∷_}
 use borrow.Author.Tests.{lt-ltb, le-ltb}
 use lib.ListN.{length, getD, take, drop}
 use lib.Seq.{drop-cons}
-use Rattle.orders.specs.Kinds.{dataOf}
+use Rattle.kinds.specs.Kinds.{dataOf}
 use Rattle.orders.specs.Form.{Message, Transaction, whole, messageAt, waitAt}
 use Rattle.orders.specs.Places.{Stands, ended, begins, follows}
 use Rattle.orders.specs.Results.{Batch, slotsOf, slotsOfAll, slotted, batches}

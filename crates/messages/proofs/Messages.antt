@@ -6,11 +6,11 @@ use mathlib.Core.Bool.{Bool, true, false, not, _||_}
 use mathlib.Core.List.{List}
 use borrow.Author.Tests.{not-true, not-false}
 use lib.ListN.{getD, set}
-use Rattle.orders.specs.Kinds.{isWrite, isCritical, dataOf, quotaOf}
+use Rattle.kinds.specs.Kinds.{isWrite, isCritical, dataOf, quotaOf}
+use Rattle.kinds.specs.declared.Quota.{Quota}
+use Rattle.kinds.proofs.KindLaws.{few-follow}
 use Rattle.orders.specs.Asking.{Order, put, get, orderOf}
 use Rattle.orders.specs.Marks.{note}
-use Rattle.orders.specs.declared.Quota.{Quota}
-use Rattle.orders.proofs.KindLaws.{few-follow}
 use Rattle.plain.specs.Clock.{Clock, symbols}
 use Rattle.plain.specs.Plain.{World, listens, answered, addressed, messageIf, message, messages, carried, writesAll}
 use Rattle.plain.specs.Inside.{symbolMost, timeOf, Passes, cellsOf}

@@ -4,7 +4,7 @@ use native.Mathlib.Omega.{arith}
 use mathlib.Core.Path.{_≡_, ap, ap₂, _∙_}
 use mathlib.Core.Bool.{Bool, false, not, _||_}
 use mathlib.Core.List.{List}
-use Rattle.orders.specs.Kinds.{isCritical}
+use Rattle.kinds.specs.Kinds.{isCritical}
 use Rattle.orders.specs.Places.{sizeAt, roomAt}
 use Rattle.messages.specs.Along.{beyond, after, opened, others, nextBatch}
 use Rattle.messages.specs.declared.Place.{Place}

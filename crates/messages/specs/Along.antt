@@ -4,11 +4,11 @@ use mathlib.Core.Bool.{cond}
 use mathlib.Core.List.{List, [], _∷_}
 use lib.Dec.{ltb}
 use lib.ListN.{length, getD}
-use Rattle.orders.specs.Kinds.{dataOf, follow}
+use Rattle.kinds.specs.Kinds.{dataOf, follow}
+use Rattle.kinds.specs.declared.Quota.{Quota}
 use Rattle.orders.specs.Form.{Message, waitAt}
 use Rattle.orders.specs.Places.{sizeAt, roomAt}
 use Rattle.orders.specs.Results.{Slotted, Batch}
-use Rattle.orders.specs.declared.Quota.{Quota}
 use Rattle.messages.specs.declared.Place.{Place}
 
 -- so early that no sum of places passes a word

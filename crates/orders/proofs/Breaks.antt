@@ -2,7 +2,7 @@
 use Prim.Native.Nat.{ℕ}
 use mathlib.Core.Path.{_≡_, refl}
 use mathlib.Core.List.{List, [], _∷_, map}
-use Rattle.orders.specs.Kinds.{mostBytes, mostMessages, mostLength, isWrite, kindRight, addressRight, countRight, lengthRight, dataOf, askedOf}
+use Rattle.kinds.specs.Kinds.{mostBytes, mostMessages, mostLength, isWrite, kindRight, addressRight, countRight, lengthRight, dataOf, askedOf}
 use Rattle.orders.specs.Form.{breaks, messageAt, parse, parsed}
 use Rattle.orders.specs.Results.{slotsOfAll, areaOf, checkOf}
 use Rattle.orders.specs.declared.Rule.the-variants.{CutShort, Count, Address, Kind, Length}

@@ -6,13 +6,13 @@ use mathlib.Core.List.{List}
 use Prim.Native.Nat.{ℕ, _+_, _<_, _≤_}
 use lib.ListN.{length, getD}
 use borrow.Author.Tests.{not-true, not-false}
-use Rattle.orders.specs.Kinds.{addressRight, kindRight, lengthRight, dataOf, askedOf}
+use Rattle.kinds.specs.Kinds.{addressRight, kindRight, lengthRight, dataOf, askedOf}
+use Rattle.kinds.proofs.KindLaws.{tests}
 use Rattle.orders.specs.Form.{breaks, cut, messageAt}
 use Rattle.orders.specs.Check.{foundAs}
 use Rattle.orders.specs.declared.Rule.the-variants.{Address, Kind, Length}
 use Rattle.orders.specs.declared.Break.{Break}
 use Rattle.orders.specs.declared.Found.the-variants.{Whole, Broken}
-use Rattle.orders.proofs.KindLaws.{tests}
 
 -- a function's answer x to a test t, and which way the code went on it
 pub held : {x t : Bool} → x ≡ t → not x ≡ false → t ≡ true

@@ -3,7 +3,7 @@ use mathlib.Core.Path.{_≡_}
 use mathlib.Core.List.{List}
 use Prim.Native.Nat.{ℕ, _+_}
 use lib.ListN.{getD}
-use Rattle.orders.specs.Kinds.{dataOf, askedOf}
+use Rattle.kinds.specs.Kinds.{dataOf, askedOf}
 use Rattle.orders.specs.Places.{sizeAt, roomAt}
 
 module _ (s : List ℕ) (at k n : ℕ) (ke : k ≡ getD s (at + 1) 0) (ne : n ≡ getD s (at + 2) 0) where

@@ -8,13 +8,13 @@ use native.Mathlib.Numerals.{add-one}
 use native.Mathlib.Omega.{arith}
 use lib.ListN.{length, getD, drop, length-append, length-drop, take-append-drop, drop-of-length-le}
 use lib.Seq.{drop-cons, length-take-le, getD-drop, drop-drop, take-append-seam, drop-append-seam}
-use Rattle.orders.specs.Kinds.{mostBytes, dataOf}
+use Rattle.kinds.specs.Kinds.{mostBytes, dataOf}
+use Rattle.kinds.proofs.KindLaws.{tests, some-message}
 use Rattle.orders.specs.Form.{Message, Transaction, whole, right, messageAt, waitAt, parsed, transactionsOf}
 use Rattle.orders.specs.Places.{Stands, ended, begins, follows}
 use Rattle.orders.specs.Results.{areaOf, checkOf}
 use Rattle.orders.specs.Bytes.{Bytes, messageBytes, messagesBytes, listBytes, RightMessage, RightMessages, RightList}
 use Rattle.orders.specs.declared.Checked.the-variants.{Accepted}
-use Rattle.orders.proofs.KindLaws.{tests, some-message}
 use Rattle.orders.proofs.WholeMessage.{message-inv}
 use Rattle.orders.proofs.Stands.{stands-parsed, holds}
 

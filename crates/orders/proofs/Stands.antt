@@ -8,13 +8,13 @@ use native.Mathlib.Omega.{arith}
 use lib.ListN.{length, getD}
 use lib.Dec.{ltb, leb}
 use borrow.Author.Tests.{ltb-false, leb-true}
-use Rattle.orders.specs.Kinds.{mostBytes, countRight}
+use Rattle.kinds.specs.Kinds.{mostBytes, countRight}
+use Rattle.kinds.proofs.KindLaws.{tests}
 use Rattle.orders.specs.Form.{Message, Transaction, Read, whole, broken, breaks, cut, Parsed, right, wrong, after, andMessage, andTransaction, waitAt, beginAt, messageAt, parse, parsed, transactionsOf}
 use Rattle.orders.specs.Places.{Stands, ended, begins, follows}
 use Rattle.orders.specs.Results.{slotsOfAll, areaOf, checkedAs, checkOf}
 use Rattle.orders.specs.declared.Rule.the-variants.{Count}
 use Rattle.orders.specs.declared.Checked.the-variants.{Accepted, TooLong}
-use Rattle.orders.proofs.KindLaws.{tests}
 use Rattle.orders.proofs.WholeMessage.{message-inv, message-slots}
 
 -- ---- what is read stands there

@@ -6,7 +6,7 @@ use native.Mathlib.Omega.{arith}
 use lib.ListN.{length, getD, set}
 use borrow.Author.Fill.{fill-more}
 use borrow.Author.Tests.{lt-ltb, le-ltb}
-use Rattle.orders.specs.Kinds.{mostBytes}
+use Rattle.kinds.specs.Kinds.{mostBytes}
 use Rattle.orders.specs.Places.{sizeAt, roomAt}
 use Rattle.orders.specs.Start.{zeroed, outcomesFrom, startedOf}
 

@@ -7,13 +7,13 @@ use native.Mathlib.Omega.{arith}
 use lib.ListN.{length, getD, drop, replicate, length-append, length-replicate, replicate-append-replicate}
 use lib.Seq.{set-at}
 use borrow.Author.Tests.{lt-ltb, le-ltb}
-use Rattle.orders.specs.Kinds.{mostBytes}
+use Rattle.kinds.specs.Kinds.{mostBytes}
+use Rattle.kinds.proofs.KindLaws.{some-message}
 use Rattle.orders.specs.Form.{Message, Transaction, transactionsOf}
 use Rattle.orders.specs.Places.{Stands, ended, begins, follows}
 use Rattle.orders.specs.Results.{slotsOf, slotsOfAll, areaOf, blankArea, startArea, checkOf}
 use Rattle.orders.specs.Start.{outcomesFrom, startedOf}
 use Rattle.orders.specs.declared.Checked.the-variants.{Accepted}
-use Rattle.orders.proofs.KindLaws.{some-message}
 use Rattle.orders.proofs.WholeMessage.{message-size, message-room, message-below}
 use Rattle.orders.proofs.Stands.{holds}
 

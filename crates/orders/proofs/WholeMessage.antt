@@ -7,7 +7,8 @@ use native.Mathlib.Omega.{arith}
 use lib.ListN.{length, getD, take, drop}
 use lib.Dec.{ltb, leb}
 use borrow.Author.Tests.{ltb-true, leb-true}
-use Rattle.orders.specs.Kinds.{addressRight, kindRight, lengthRight, dataOf}
+use Rattle.kinds.specs.Kinds.{addressRight, kindRight, lengthRight, dataOf}
+use Rattle.kinds.proofs.KindLaws.{few-asked}
 use Rattle.orders.specs.Form.{Message, Read, whole, broken, breaks, cut, messageAt}
 use Rattle.orders.specs.Results.{slotsOf}
 use Rattle.orders.specs.Places.{sizeAt, roomAt}
@@ -16,7 +17,6 @@ use Rattle.orders.specs.declared.Rule.{Rule}
 use Rattle.orders.specs.declared.Break.{Break}
 use Rattle.orders.specs.declared.Found.{Found}
 use Rattle.orders.specs.declared.Found.the-variants.{Whole, Broken}
-use Rattle.orders.proofs.KindLaws.{few-asked}
 
 -- m stands at p, and q is the place after it
 pub record IsMessage (s : List ℕ) (p : ℕ) (m : Message) (q : ℕ) : Type 0 where

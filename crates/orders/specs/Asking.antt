@@ -2,9 +2,9 @@
 use Prim.Native.Nat.{ℕ, _+_, _*_}
 use mathlib.Core.Bool.{cond}
 use mathlib.Core.List.{List}
-use Rattle.orders.specs.Kinds.{isWrite, quotaOf}
+use Rattle.kinds.specs.Kinds.{isWrite, quotaOf}
+use Rattle.kinds.specs.declared.Quota.{Quota}
 use Rattle.orders.specs.Form.{Message}
-use Rattle.orders.specs.declared.Quota.{Quota}
 
 pub data Order : Type 0 where
   put : List ℕ → Order

@@ -5,7 +5,7 @@ use mathlib.Core.Path.{_≡_}
 use mathlib.Core.Bool.{true}
 use mathlib.Core.List.{List, [], _∷_, _++_}
 use lib.ListN.{length, getD}
-use Rattle.orders.specs.Kinds.{addressRight, kindRight, lengthRight, countRight, dataOf}
+use Rattle.kinds.specs.Kinds.{addressRight, kindRight, lengthRight, countRight, dataOf}
 use Rattle.orders.specs.Form.{Message, Transaction}
 
 -- what a lent slice holds

@@ -6,7 +6,7 @@ use mathlib.Core.Bool.{Bool, cond}
 use mathlib.Core.List.{List, [], _∷_}
 use lib.Dec.{ltb, leb}
 use lib.ListN.{length, getD, take, drop}
-use Rattle.orders.specs.Kinds.{addressRight, kindRight, lengthRight, countRight, dataOf}
+use Rattle.kinds.specs.Kinds.{addressRight, kindRight, lengthRight, countRight, dataOf}
 use Rattle.orders.specs.declared.Rule.{Rule}
 use Rattle.orders.specs.declared.Rule.the-variants.{CutShort, Count, Address, Kind, Length}
 use Rattle.orders.specs.declared.Break.{Break}

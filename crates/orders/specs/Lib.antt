@@ -1,4 +1,3 @@
-pub mod Kinds
 pub mod Form
 pub mod Bytes
 pub mod Asking

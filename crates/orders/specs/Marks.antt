@@ -3,7 +3,7 @@ use Prim.Native.Nat.{ℕ, _+_}
 use mathlib.Core.Bool.{Bool, true, false}
 use mathlib.Core.List.{List}
 use lib.ListN.{set}
-use Rattle.orders.specs.declared.Quota.{Quota}
+use Rattle.kinds.specs.declared.Quota.{Quota}
 
 -- At the end of every ninth symbol: an address byte or a written byte and whether it was acknowledged, or a byte read; with a data byte goes the
 -- count of those before it. Then the end of a transaction's STOP, and a fault with its outcome.

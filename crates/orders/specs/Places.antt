@@ -4,7 +4,7 @@ use mathlib.Core.Path.{_≡_}
 use mathlib.Core.Bool.{true}
 use mathlib.Core.List.{List, [], _∷_}
 use lib.ListN.{length, getD}
-use Rattle.orders.specs.Kinds.{countRight, dataOf, askedOf}
+use Rattle.kinds.specs.Kinds.{countRight, dataOf, askedOf}
 use Rattle.orders.specs.Form.{Message, Transaction, whole, messageAt, waitAt}
 
 -- the bytes that a message takes in the list: address, kind, length, a write's data

@@ -5,7 +5,7 @@ use mathlib.Core.Bool.{cond}
 use mathlib.Core.List.{List, [], _∷_, _++_}
 use lib.Dec.{ltb}
 use lib.ListN.{length, drop, replicate}
-use Rattle.orders.specs.Kinds.{mostBytes, askedOf}
+use Rattle.kinds.specs.Kinds.{mostBytes, askedOf}
 use Rattle.orders.specs.Form.{Message, Transaction, Parsed, right, wrong, parsed}
 use Rattle.orders.specs.declared.Checked.{Checked}
 use Rattle.orders.specs.declared.Checked.the-variants.{Accepted, TooLong, Broken}

@@ -5,7 +5,7 @@ use mathlib.Core.Bool.{cond}
 use mathlib.Core.List.{List, _++_}
 use lib.Dec.{ltb}
 use lib.ListN.{length, getD, set, drop, replicate}
-use Rattle.orders.specs.Kinds.{mostBytes}
+use Rattle.kinds.specs.Kinds.{mostBytes}
 use Rattle.orders.specs.Places.{sizeAt, roomAt}
 
 abbrev pub zeroed : ℕ → List ℕ → List ℕ

@@ -2,21 +2,22 @@
 ghost use mathlib.Core.Path.{_≡_};
 ghost use Prim.Native.Nat.{suc, _+_, _-_, _*_, _<_, _≤_};
 ghost use lib.ListN.{length};
-ghost use Rattle.orders.specs.Kinds.{mostBytes, isWrite, isCritical, kindRight, addressRight, countRight, lengthRight, dataOf, askedOf, quotaOf, follow, remain};
+ghost use Rattle.kinds.specs.Kinds.{mostBytes};
 ghost use Rattle.orders.specs.Form.{breaks, messageAt};
 ghost use Rattle.orders.specs.Results.{checkOf, listNumber};
 ghost use Rattle.orders.specs.Check.{foundAs, Tells};
 ghost use Rattle.orders.specs.Places.{sizeAt, roomAt};
 ghost use Rattle.orders.specs.Start.{zeroed, outcomesFrom, startedOf};
+use kinds::MOST_BYTES;
+use kinds::asked_of;
+use kinds::data_of;
+use kinds::is_address;
+use kinds::is_count;
+use kinds::is_kind;
+use kinds::is_length;
+use kinds::one_less;
 use lent::byte_at;
 use lent::put_at;
-
-// The most that a list has in bytes, a transaction in messages, a message in bytes written or asked for.
-pub const MOST_BYTES: usize = 4096;
-
-pub const MOST_MESSAGES: u8 = 8;
-
-pub const MOST_LENGTH: u8 = 64;
 
 // Which rule of the form a list breaks.
 pub enum Rule {
@@ -53,107 +54,10 @@ impl Checked {
     }
 }
 
-// How many bytes a read still asks for after the one under way.
-pub struct Quota {
-    pub more: u8,
-}
-
-impl Quota {
-    // How many bytes follow one of this value.
-    pub fn follow(self, byte: u8) -> u8
-        ensures { λ r. ⌜ r ≡ follow self byte ⌝ }
-    {
-        self.more
-    }
-
-    // The quota of the next byte, with n more after that.
-    pub fn remain(self, n: u8) -> Quota
-        ensures { λ r. ⌜ r ≡ remain self n ⌝ }
-    {
-        Quota { more: n }
-    }
-}
-
 // What stands where a message is due: a whole one, with the place after it and its slots in the result area, or a break.
 enum Found {
     Whole { next: usize, slots: usize },
     Broken(Break),
-}
-
-// ---- kinds, and the limits of each byte
-
-pub fn is_write(kind: u8) -> bool
-    ensures { λ r. ⌜ r ≡ isWrite kind ⌝ }
-{
-    kind % 2 == 0
-}
-
-pub fn is_critical(kind: u8) -> bool
-    ensures { λ r. ⌜ r ≡ isCritical kind ⌝ }
-{
-    kind < 2
-}
-
-// The data bytes that follow in the list.
-pub fn data_of(kind: u8, n: u8) -> u8
-    ensures { λ r. ⌜ r ≡ dataOf kind n ⌝ }
-{
-    if is_write(kind) { n } else { 0 }
-}
-
-// The bytes asked of a read.
-pub fn asked_of(kind: u8, n: u8) -> u8
-    ensures { λ r. ⌜ r ≡ askedOf kind n ⌝ }
-{
-    if is_write(kind) { 0 } else { n }
-}
-
-// What a read's first byte leaves to come.
-pub fn quota_of(kind: u8, n: u8) -> Quota
-    ensures { λ r. ⌜ r ≡ quotaOf kind n ⌝ }
-{
-    Quota { more: one_less(n) }
-}
-
-fn one_less(n: u8) -> u8
-    ensures { λ r. ⌜ r ≡ n - 1 ⌝ }
-{
-    if 0 < n { n - 1 } else { 0 }
-}
-
-fn is_kind(kind: u8) -> bool
-    ensures { λ r. ⌜ r ≡ kindRight kind ⌝ }
-{
-    kind <= 3
-}
-
-fn is_address(address: u8) -> bool
-    ensures { λ r. ⌜ r ≡ addressRight address ⌝ }
-{
-    address <= 127
-}
-
-fn is_count(count: u8) -> bool
-    ensures { λ r. ⌜ r ≡ countRight count ⌝ }
-{
-    if 1 <= count {
-        count <= MOST_MESSAGES
-    } else {
-        false
-    }
-}
-
-// A read of no byte would never get the 1 that ends it.
-fn is_length(kind: u8, n: u8) -> bool
-    ensures { λ r. ⌜ r ≡ lengthRight kind n ⌝ }
-{
-    if is_write(kind) {
-        n <= MOST_LENGTH
-    } else if 1 <= n {
-        n <= MOST_LENGTH
-    } else {
-        false
-    }
 }
 
 // ---- the check

@@ -4,11 +4,11 @@ use mathlib.Core.Path.{_≡_, refl, sym, _∙_}
 use mathlib.Core.Bool.{Bool, true, false, not, _||_, cond}
 use mathlib.Core.List.{List, [], _∷_, map}
 use lib.ListN.{length, length-map}
-use Rattle.orders.specs.Kinds.{isCritical, follow, remain}
+use Rattle.kinds.specs.Kinds.{isCritical, follow, remain}
+use Rattle.kinds.specs.declared.Quota.{Quota}
 use Rattle.orders.specs.Asking.{Order, put, get, orderOf}
 use Rattle.orders.specs.Marks.{written}
 use Rattle.orders.specs.Results.{Slotted, Batch}
-use Rattle.orders.specs.declared.Quota.{Quota}
 use Rattle.store.specs.Keeping.{takes, steps, starts}
 use Rattle.plain.specs.Clock.{symbol, pass}
 use Rattle.plain.specs.Plain.{Cell, World, does, only, valueOf, byteGoes, writesAll, readsOne, readsAll, carried, listening, answered, addressed, messageIf, message, started, messages, stores, closes, transactions}

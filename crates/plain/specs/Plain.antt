@@ -4,11 +4,11 @@ use Prim.Native.Nat.{ℕ, zero, suc, _+_}
 use mathlib.Core.Bool.{Bool, true, false, _&&_, _||_, not, cond}
 use mathlib.Core.List.{List, [], _∷_, map}
 use lib.Dec.{eqb, leb}
-use Rattle.orders.specs.Kinds.{isCritical, follow, remain}
+use Rattle.kinds.specs.Kinds.{isCritical, follow, remain}
+use Rattle.kinds.specs.declared.Quota.{Quota}
 use Rattle.orders.specs.Results.{Slotted, Batch}
 use Rattle.orders.specs.Marks.{Mark, heard, written, closed, readMark, Log, note}
 use Rattle.orders.specs.Asking.{Order, put, get, orderOf, addressByte}
-use Rattle.orders.specs.declared.Quota.{Quota}
 use Rattle.store.specs.Keeping.{Kept, takes, byteNow, steps, starts, stops}
 use Rattle.plain.specs.Clock.{Clock, symbol, symbols, pass}
 

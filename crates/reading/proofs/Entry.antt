@@ -10,8 +10,8 @@ use lib.Dec.{ltb}
 use lib.ListN.{length, take}
 use Rattle.lent.specs.Refusals.{no, _then_}
 use Rattle.lent.specs.declared.Answer.{Answer}
+use Rattle.kinds.specs.Kinds.{mostBytes}
 use Rattle.orders.specs.Form.{transactionsOf}
-use Rattle.orders.specs.Kinds.{mostBytes}
 use Rattle.orders.specs.Results.{startArea, checkOf}
 use Rattle.orders.specs.Start.{startedOf}
 use Rattle.orders.specs.declared.Break.{Break}

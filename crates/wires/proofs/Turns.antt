@@ -15,7 +15,7 @@ use Rattle.lines.specs.declared.Lines.{Lines}
 use Rattle.lines.specs.declared.Eye.{Eye}
 use Rattle.symbols.specs.Symbols.{drives, isOver}
 use Rattle.symbols.specs.Ticks.{Control}
-use Rattle.controller.specs.Cursor.{Spot, places}
+use Rattle.cursor.specs.Cursor.{Spot, places}
 use Rattle.eeprom.specs.Stages.{Body, bodyTick, sdaOf}
 use Rattle.board.specs.Seats.{Seated, bodyOf, allUp}
 use Rattle.wires.specs.Holding.{Holding}

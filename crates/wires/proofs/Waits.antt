@@ -16,8 +16,8 @@ use Rattle.symbols.specs.declared.Begin.the-variants.{First}
 use Rattle.symbols.specs.declared.Symbol.the-variants.{Start}
 use Rattle.symbols.specs.declared.Phase.{Phase}
 use Rattle.symbols.specs.declared.Phase.the-variants.{Over, Waiting, Zero, One, Two, Three}
-use Rattle.controller.specs.Cursor.{places}
-use Rattle.controller.specs.declared.Cursor.{Cursor}
+use Rattle.cursor.specs.Cursor.{places}
+use Rattle.cursor.specs.declared.Cursor.{Cursor}
 use Rattle.board.specs.Seats.{Seated, allUp}
 use Rattle.board.proofs.Heard.{none-heard}
 use Rattle.wires.specs.Wires.{run}

@@ -14,7 +14,8 @@ use Rattle.symbols.specs.declared.Begin.the-variants.{First}
 use Rattle.symbols.specs.declared.Symbol.the-variants.{Start}
 use Rattle.symbols.specs.declared.Phase.{Phase}
 use Rattle.symbols.specs.declared.Phase.the-variants.{Over, Waiting, Zero, One, Two, Three}
-use Rattle.controller.specs.Cursor.{Spot, places, controlOf}
+use Rattle.cursor.specs.Cursor.{Spot, places}
+use Rattle.controller.specs.Inside.{controlOf}
 use Rattle.board.specs.Seats.{Seated, bodyOf}
 use Rattle.wires.specs.Holding.{Holding, holdTick}
 use Rattle.wires.specs.Wires as Wires

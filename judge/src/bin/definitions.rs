@@ -6,8 +6,8 @@ use std::fs;
 use std::path::Path;
 use std::process::{exit, Command};
 
-const RULES: [&str; 14] = [
-    "lent", "lines", "orders", "symbols", "controller", "store", "eeprom", "lone_chip", "board", "wires", "bus", "plain", "messages", "reading",
+const RULES: [&str; 16] = [
+    "lent", "lines", "kinds", "orders", "symbols", "cursor", "controller", "store", "eeprom", "lone_chip", "board", "wires", "bus", "plain", "messages", "reading",
 ];
 const THEOREMS: [&str; 2] = ["agreement", "bench"];
 

@@ -3,8 +3,7 @@ use borrow.Author.Needs.{needs}
 use Prim.Native.Nat.{_-_, _≤_}
 use mathlib.Core.Path.{_≡_, refl, _∙_}
 use lib.ListN.{length, length-set}
-use Rattle.controller.specs.Cursor.{controlOf, firstOf}
-use Rattle.controller.specs.Running.{ranOn}
+use Rattle.controller.specs.Inside.{controlOf, firstOf, ranOn}
 use Rattle.controller.proofs.Record.{onward, run-starts, turn, ends-over, ends-record}
 use Rattle.controller.proofs.run.Statement.{statement}
 use Rattle.controller.proofs.run.Tie as tie

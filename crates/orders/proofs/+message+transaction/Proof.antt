@@ -6,7 +6,9 @@ use lib.ListN.{length}
 use borrow.Author.Needs.{needs}
 use borrow.Fn.Kinds.{In}
 use borrow.Fn.PlainCycle.{Measures, is, falls, and}
-use Rattle.orders.proofs.KindLaws.{most-bytes}
+use Rattle.kinds.proofs.KindLaws.{most-bytes}
+use Rattle.kinds.proofs.is_count.Reads as is-count-reads
+use Rattle.kinds.proofs.one_less.Reads as one-less-reads
 use Rattle.orders.proofs.WholeMessage.{learnt}
 use Rattle.orders.proofs.Cycle.{list-ends, bad-count, no-wait, transaction-begins, message-breaks, message-last, message-follows}
 use Rattle.orders.proofs.message.Kinds as message-kinds
@@ -17,8 +19,6 @@ use Rattle.orders.proofs.+message+transaction.Lts-message as message-lt
 use Rattle.orders.proofs.transaction.Reads as transaction
 use Rattle.orders.proofs.+message+transaction.Lts-transaction as transaction-lts
 use Rattle.orders.proofs.break_at.Reads as break-at-reads
-use Rattle.orders.proofs.is_count.Reads as is-count-reads
-use Rattle.orders.proofs.one_less.Reads as one-less-reads
 use Rattle.orders.proofs.read_one.Reads as read-one-reads
 use Rattle.orders.proofs.+message+transaction.Tie.{close}
 

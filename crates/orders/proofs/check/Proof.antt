@@ -1,6 +1,6 @@
 -- `orders::check` meets its contract: too long, or what `transaction` answers at the list's start. Assumes nothing.
 use borrow.Author.Needs.{needs}
-use Rattle.orders.specs.Kinds.{mostBytes}
+use Rattle.kinds.specs.Kinds.{mostBytes}
 use Rattle.orders.proofs.Cycle.{too-long, checked}
 use Rattle.orders.proofs.check.Statement.{statement}
 use Rattle.orders.proofs.check.Tie as tie

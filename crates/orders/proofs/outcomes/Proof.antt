@@ -4,8 +4,8 @@ use Prim.Native.Nat.{suc, _*_, _-_, _≤_}
 use native.Mathlib.Omega.{arith}
 use lib.ListN.{length}
 use borrow.Author.Needs.{needs}
+use Rattle.kinds.proofs.KindLaws.{most-bytes}
 use Rattle.orders.specs.Start.{outcomesFrom}
-use Rattle.orders.proofs.KindLaws.{most-bytes}
 use Rattle.orders.proofs.StartTurns.{Leaves, walk-begins, walk-passes, walk-puts, walk-ends}
 use Rattle.orders.proofs.outcomes.Statement.{statement}
 use Rattle.orders.proofs.outcomes.Tie as tie

@@ -1,6 +1,6 @@
 -- `orders::start` meets its contract: left alone, or cleared and then marked. Assumes nothing.
 use borrow.Author.Needs.{needs}
-use Rattle.orders.specs.Kinds.{mostBytes}
+use Rattle.kinds.specs.Kinds.{mostBytes}
 use Rattle.orders.proofs.StartTurns.{too-small, list-too-long, started}
 use Rattle.orders.proofs.start.Statement.{statement}
 use Rattle.orders.proofs.start.Tie as tie

@@ -8,7 +8,7 @@ use native.Mathlib.Omega.{arith}
 use lib.ListN.{length, length-set}
 use borrow.Author.Needs.{needs}
 use borrow.Rule.Slice.PartMut.{same-len-mid}
-use Rattle.controller.specs.Cursor.{places}
+use Rattle.cursor.specs.Cursor.{places}
 use Rattle.board.specs.Seats.{seated, offset, allUp}
 use Rattle.board.proofs.Heard.{all-heard, none-heard}
 use Rattle.board.proofs.Seated.{seated-length}

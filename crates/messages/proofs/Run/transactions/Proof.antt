@@ -3,7 +3,7 @@ use Prim.Native.Nat.{suc, _*_, _-_, _≤_}
 use mathlib.Core.Path.{_≡_, refl, _∙_}
 use lib.ListN.{length}
 use borrow.Author.Needs.{needs}
-use Rattle.orders.proofs.KindLaws.{most-bytes}
+use Rattle.kinds.proofs.KindLaws.{most-bytes}
 use Rattle.plain.specs.Plain.{transactions}
 use Rattle.messages.specs.Inside.{transactionMost, worldOf, Sound}
 use Rattle.messages.specs.Along.{batchesAt}

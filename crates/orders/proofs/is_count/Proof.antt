@@ -1,9 +1,0 @@
--- A count of 0 and one of 1 or more, each by its law. Assumes nothing.
-use Rattle.orders.specs.Kinds.{mostMessages}
-use Rattle.orders.proofs.KindLaws.{some-messages, no-messages}
-use Rattle.orders.proofs.is_count.Statement.{statement}
-use Rattle.orders.proofs.is_count.Tie as tie
-
-pub is-count-spec : {M : Type 1} → statement M
-unfolding mostMessages
-is-count-spec = tie.close (tie.spec (λ c. search some-messages) (λ c. search no-messages))

@@ -1,9 +1,0 @@
--- `isWrite` opened: the code says the same. Assumes nothing.
-use borrow.Author.Needs.{needs}
-use Rattle.orders.specs.Kinds.{isWrite}
-use Rattle.orders.proofs.is_write.Statement.{statement}
-use Rattle.orders.proofs.is_write.Tie as tie
-
-pub is-write-spec : {M : Type 1} → statement M
-unfolding isWrite
-is-write-spec = tie.close (tie.spec (λ c. search needs))
