@@ -39,7 +39,10 @@ save-spec =
     let k : l .i * 4 + 4 - l .i * 4 ≡ 4 = omega arith in (
       search needs,
       same-len-mid (l .i * 4) (l .i * 4 + 4 - l .i * 4) (l .states) (c .before .before .put .last .1 .1 .0) (c .before .before .put .kept .1 .1 .0) ∙ l .inv .1,
-      rw k (one-saved (c .before .before .before .before .before .before .before .before .args .tick) (c .before .before .before .before .before .before .before .before .args .n) (l .i) (c .before .before .before .before .before .before .before .before .args .t1) (l .states) (c .before .before .put .last .1 .1 .0) _ (l .inv .2) (l .inv .1 ∙ p .1) t (search needs)
+      rw k (one-saved (c .before .before .before .before .before .before .before .before .args .tick)
+          (c .before .before .before .before .before .before .before .before .args .n) (l .i)
+          (c .before .before .before .before .before .before .before .before .args .t1) (l .states) (c .before .before .put .last .1 .1 .0) _
+          (l .inv .2) (l .inv .1 ∙ p .1) t (search needs)
           (rw k at (c .before .before .put .ensures))),
     ))
     (λ c. search needs)

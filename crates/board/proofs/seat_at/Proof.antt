@@ -53,7 +53,9 @@ cast-t8 c = search needs
 
 -- src/lib.rt:76:1
 returns : tie.Need-returns
-returns c = seat-so (c .before .before .before .before .before .args .marks) (now (c .before .before .before .before .before .args .states)) (c .before .before .before .before .before .args .strap) _ _ _ _ _ _ (c .before .before .before .place-of .ensures .0) (c .before .before .word-at .ensures) (c .before .word-at2 .ensures) refl refl (c .at-rest .ensures)
+returns c = seat-so (c .before .before .before .before .before .args .marks) (now (c .before .before .before .before .before .args .states))
+    (c .before .before .before .before .before .args .strap) _ _ _ _ _ _ (c .before .before .before .place-of .ensures .0)
+    (c .before .before .word-at .ensures) (c .before .word-at2 .ensures) refl refl (c .at-rest .ensures)
 
 pub seat-at-spec : {M : Type 1} → statement M
 seat-at-spec =

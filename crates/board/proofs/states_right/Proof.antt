@@ -1,4 +1,5 @@
 -- `board::states_right` meets its contract, state after state. Assumes nothing.
+-- `c4` is the state four steps before `c`.
 use Prim.Native.Nat.{_-_, _≤_}
 use mathlib.Core.Path.{refl}
 use borrow.Author.Needs.{needs}
@@ -28,10 +29,26 @@ states-right-spec =
     (λ c. let p = c .before .place-of .ensures in search needs)
     (λ c κs. search needs)
     (λ c κs. search needs)
-    (λ c. out-of-range _ _ _ (c .before .before .before .before .before .before .before .before .loop .inv .1) _ (c .before .before .before .before .before .before .bit-at .ensures) (c .before .before .before .before .before .before .before .loop-test .taken) (c .before .before .before .before .before .if1 .taken) _ _ _ _ _ (c .before .before .before .before .place-of .ensures .0) (c .before .before .before .word-at .ensures) (c .before .before .word-at2 .ensures) refl refl _ (c .before .state-right .ensures) (c .if2 .taken))
+    (λ c. let c3 = c .before .before .before in
+    let c4 = c3 .before in
+    let c5 = c4 .before in
+    let c6 = c5 .before in
+    let c7 = c6 .before in
+    let c8 = c7 .before in
+    out-of-range _ _ _ (c8 .loop .inv .1) _ (c6 .bit-at .ensures) (c7 .loop-test .taken) (c5 .if1 .taken) _ _ _ _ _ (c4 .place-of .ensures .0)
+    (c3 .word-at .ensures) (c .before .before .word-at2 .ensures) refl refl _ (c .before .state-right .ensures) (c .if2 .taken))
     (λ c. search needs)
     (λ c. search needs)
-    (λ c. (search needs, in-range _ _ _ (c .before .before .before .before .before .before .before .before .loop .inv .1) _ (c .before .before .before .before .before .before .bit-at .ensures) (c .before .before .before .before .before .before .before .loop-test .taken) (c .before .before .before .before .before .if1 .taken) _ _ _ _ _ (c .before .before .before .before .place-of .ensures .0) (c .before .before .before .word-at .ensures) (c .before .before .word-at2 .ensures) refl refl _ (c .before .state-right .ensures) (c .if2 .left)))
+    (λ c. let c3 = c .before .before .before in
+    let c4 = c3 .before in
+    let c5 = c4 .before in
+    let c6 = c5 .before in
+    let c7 = c6 .before in
+    let c8 = c7 .before in (
+      search needs,
+      in-range _ _ _ (c8 .loop .inv .1) _ (c6 .bit-at .ensures) (c7 .loop-test .taken) (c5 .if1 .taken) _ _ _ _ _
+          (c4 .place-of .ensures .0) (c3 .word-at .ensures) (c .before .before .word-at2 .ensures) refl refl _ (c .before .state-right .ensures) (c .if2 .left),
+    ))
     (λ c. search needs)
     (λ c. search needs)
     (λ c. search (needs, no-state))

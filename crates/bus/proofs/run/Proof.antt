@@ -1,4 +1,5 @@
 -- `bus::run` meets its contract: the numbers in their order, and then the run. Assumes nothing.
+-- `c4` is the state four steps before `c`.
 use denote.Ref.{now}
 use borrow.Author.Needs.{needs}
 use Rattle.bus.proofs.Entry.{number-1, number-2, number-3-to-6, number-7, fine-so}
@@ -20,7 +21,15 @@ run-spec =
     (λ c. search needs)
     (λ c. search needs)
     (λ c. search number-7)
-    (λ c κs. fine-so (now (c .before .before .before .before .before .before .before .before .before .before .before .before .before .before .before .before .before .before .before .args .list)) (c .before .before .before .before .before .before .before .before .before .before .before .before .before .before .before .before .before .before .before .args .marks) (now (c .before .before .before .before .before .before .before .before .before .before .before .before .before .before .before .before .before .before .before .args .memory)) (now (c .before .before .before .before .before .before .before .before .before .before .before .before .before .before .before .before .before .before .before .args .states)) (now (c .before .before .before .before .before .before .before .before .before .before .before .before .before .before .before .before .before .before .before .args .holds)) (c .before .before .before .before .before .before .before .before .before .before .before .before .before .before .before .before .before .before .before .args .asked) (now (c .before .before .before .before .before .before .before .before .before .before .before .before .before .before .before .before .before .before .before .args .results)) (now (c .before .before .before .before .before .before .before .before .before .before .before .before .before .before .before .before .before .before .before .args .trace)) _ (c .before .before .before .before .before .before .before .before .before .before .before .before .check .ensures) _ (c .before .before .before .before .before .before .before .before .before .before .checked .given .1) _ (c .before .before .before .before .before .before .board-number .ensures) (c .before .before .before .before .before .if1 .left) (c .before .before .before .before .if2 .left))
+    (λ c κs. let c4 = c .before .before .before .before in
+    let c5 = c4 .before in
+    let c6 = c5 .before in
+    let c10 = c6 .before .before .before .before in
+    let c12 = c10 .before .before in
+    let c19 = c12 .before .before .before .before .before .before .before in
+    fine-so (now (c19 .args .list)) (c19 .args .marks) (now (c19 .args .memory)) (now (c19 .args .states)) (now (c19 .args .holds)) (c19 .args .asked)
+    (now (c19 .args .results)) (now (c19 .args .trace)) _ (c12 .check .ensures) _ (c10 .checked .given .1) _ (c6 .board-number .ensures)
+    (c5 .if1 .left) (c4 .if2 .left))
     (λ c. search number-1)
     (λ c. search number-2)
     (λ c. search needs)

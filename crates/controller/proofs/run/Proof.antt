@@ -1,4 +1,5 @@
 -- `controller::run` meets its contract. The loop keeps that what is still to come, from the tick t on, is the answer. Assumes nothing.
+-- `c4` is the state four steps before `c`.
 use borrow.Author.Needs.{needs}
 use Prim.Native.Nat.{_-_, _≤_}
 use mathlib.Core.Path.{_≡_, refl, _∙_}
@@ -37,13 +38,22 @@ run-spec =
     (λ c. search needs)
     (λ c κs. search needs)
     (λ c κs. search needs)
-    (λ c. let s = c .before .before .before .before .before .before .before .before .before .before .before .before .before .before .before .before .before .good .1 .0 .0 in let h = c .before .before .before .before .before .before .before .before .before .before .loop-test .taken in search needs)
+    (λ c. let c10 = c .before .before .before .before .before .before .before .before .before .before in
+    let c17 = c10 .before .before .before .before .before .before .before in
+    let s = c17 .good .1 .0 .0 in let h = c10 .loop-test .taken in search needs)
     (λ c. let h = c .before .before .before .before .before .before .before .before .before .before .loop-test .taken in search needs)
-    (λ c. let i = c .before .before .before .before .before .before .before .before .before .before .before .loop .inv in
-    let h = c .before .before .before .before .before .before .before .before .before .before .loop-test .taken in
+    (λ c. let c4 = c .before .before .before .before in
+    let c6 = c4 .before .before in
+    let c7 = c6 .before in
+    let c8 = c7 .before in
+    let c9 = c8 .before in
+    let c10 = c9 .before in
+    let c11 = c10 .before in
+    let i = c11 .loop .inv in
+    let h = c10 .loop-test .taken in
     let k = i .1 in (
-      turn _ _ _ _ _ _ _ (i .0) _ _ _ _ _ _ _ (c .before .before .before .before .before .before .before .before .before .is-over .ensures) (c .before .before .before .before .before .before .before .before .if1 .left) (c .before .before .before .before .before .before .before .drive .ensures) (c .before .before .before .before .before .before .byte .ensures) refl
-          (c .before .before .before .before .from-byte .ensures) (c .before .before .tick .ensures) h,
+      turn _ _ _ _ _ _ _ (i .0) _ _ _ _ _ _ _ (c9 .is-over .ensures) (c8 .if1 .left) (c7 .drive .ensures) (c6 .byte .ensures) refl
+          (c4 .from-byte .ensures) (c .before .before .tick .ensures) h,
       search (needs, length-set),
       search (needs, length-set),
       c .before .before .tick .kept .1 .1 .1 .0 ∙ i .3,

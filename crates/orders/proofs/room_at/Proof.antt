@@ -5,4 +5,5 @@ use Rattle.orders.proofs.room_at.Statement.{statement}
 use Rattle.orders.proofs.room_at.Tie as tie
 
 pub room-at-spec : {M : Type 1} → statement M
-room-at-spec = tie.close (tie.spec (λ c. search needs) (λ c κs. search needs) (λ c. search needs) (λ c κs. search needs) (λ c κs. search needs) (λ c. search needs) (λ c. search needs) (λ c. (search roomed, search needs)))
+room-at-spec = tie.close (tie.spec (λ c. search needs) (λ c κs. search needs) (λ c. search needs) (λ c κs. search needs) (λ c κs. search needs)
+    (λ c. search needs) (λ c. search needs) (λ c. (search roomed, search needs)))

@@ -1,4 +1,5 @@
 -- `controller::Controller::tick` meets its contract. Assumes nothing.
+-- `c4` is the state four steps before `c`.
 use borrow.Author.Needs.{needs}
 use Rattle.controller.proofs.Ticking.{ticks-last, needs-clear, ticks-inside, ticks-over}
 use Rattle.controller.proofs.Controller.tick.Statement.{statement}
@@ -11,4 +12,9 @@ tick-spec =
     (λ c κs. search needs) (λ c κs. search needs) (λ c. search needs)
     (λ c. search ticks-last) (λ c κs. search needs-clear) (λ c. search ticks-inside) (λ c. search needs) (λ c κs. search needs)
     (λ c κs. search needs) (λ c κs. search needs) (λ c. search needs)
-    (λ c. ticks-over _ _ _ _ _ _ (c .before .before .before .before .before .before .before .before .before .fault .ensures) (c .before .before .before .before .before .before .before .before .is-clear .ensures) _ _ _ (c .before .before .before .before .before .before .before .if1 .left) (c .before .before .before .before .outcome .ensures) (c .before .before .before .put-at .ensures) (c .nowhere .ensures)))
+    (λ c. let c3 = c .before .before .before in
+    let c4 = c3 .before in
+    let c7 = c4 .before .before .before in
+    let c8 = c7 .before in
+    let c9 = c8 .before in
+    ticks-over _ _ _ _ _ _ (c9 .fault .ensures) (c8 .is-clear .ensures) _ _ _ (c7 .if1 .left) (c4 .outcome .ensures) (c3 .put-at .ensures) (c .nowhere .ensures)))

@@ -1,4 +1,5 @@
 -- `lone_chip::Watch::runs` meets its contract. Assumes nothing.
+-- `c4` is the state four steps before `c`.
 use Prim.Native.Nat.{_≤_, _-_}
 use borrow.Author.Needs.{needs}
 use lib.ListN.{length}
@@ -10,7 +11,9 @@ use Rattle.lone_chip.proofs.Watch.runs.Statement.{statement}
 use Rattle.lone_chip.proofs.Watch.runs.Tie as tie
 
 abbrev Inv-loop : tie.InvT-loop
-Inv-loop asked memory₀ samples drives₀ watch₀ i₀ memory drives watch i = (i ≤ length samples) × (length memory ≡ length memory₀) × (length drives ≡ length drives₀) × (leaves (chip asked) i samples (watchOf watch memory) drives ≡ leaves (chip asked) 0 samples (watchOf watch₀ memory₀) drives₀)
+Inv-loop asked memory₀ samples drives₀ watch₀ i₀ memory drives watch
+    i = (i ≤ length samples) × (length memory ≡ length memory₀) × (length drives ≡ length drives₀) × (leaves (chip asked) i samples
+    (watchOf watch memory) drives ≡ leaves (chip asked) 0 samples (watchOf watch₀ memory₀) drives₀)
 
 abbrev μ-loop : tie.MeasureT-loop
 μ-loop asked memory₀ samples drives₀ watch₀ i₀ memory drives watch i = length samples - i
@@ -27,7 +30,9 @@ runs-spec =
     (λ c. search needs)
     (λ c κs. search needs)
     (λ c κs. search needs)
-    (λ c. let l = c .before .before .before .before .before .before .before .before .before .before .before .before .loop-test .taken in let g = c .before .before .before .before .before .before .before .before .before .before .before .before .before .before .before .before .before .good in search needs)
+    (λ c. let c12 = c .before .before .before .before .before .before .before .before .before .before .before .before in
+    let c17 = c12 .before .before .before .before .before in
+    let l = c12 .loop-test .taken in let g = c17 .good in search needs)
     (λ c. search needs)
     (λ c. (search needs, search needs, search needs, search turn))
     (λ c. search needs)

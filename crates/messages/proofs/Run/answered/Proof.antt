@@ -1,4 +1,5 @@
 -- `messages::Run::answered` meets its contract. Assumes nothing.
+-- `c4` is the state four steps before `c`.
 use denote.Ref.{now}
 use borrow.Author.Needs.{needs}
 use Rattle.messages.proofs.Going.{answered-so}
@@ -12,4 +13,6 @@ answered-spec =
     (λ c κs. search needs)
     (λ c κs. search needs)
     (λ c κs. search needs)
-    (λ c. answered-so _ (now (c .before .before .before .before .before .before .before .args .list)) (c .before .before .before .before .before .before .before .args .self) (c .before .before .before .before .before .before .before .args .place) _ _ _ (c .before .byte-at .ensures) (c .before .before .symbols .ensures .is) (c .any-listens .ensures)))
+    (λ c. let c7 = c .before .before .before .before .before .before .before in
+    answered-so _ (now (c7 .args .list)) (c7 .args .self) (c7 .args .place) _ _ _ (c .before .byte-at .ensures)
+    (c .before .before .symbols .ensures .is) (c .any-listens .ensures)))

@@ -1,4 +1,5 @@
 -- `plain::chips::all_move` meets its contract, chip after chip. Assumes nothing.
+-- `c4` is the state four steps before `c`.
 use Prim.Native.Nat.{_-_, _≤_}
 use mathlib.Core.Path.{_≡_}
 use lib.ListN.{length}
@@ -29,5 +30,16 @@ all-move-spec =
     (λ c. search needs)
     (λ c. search needs)
     (λ c. search needs)
-    (λ c. (search needs, search needs, search needs, done-step (seatMoves (c .before .before .before .before .args .deed) (c .before .before .before .before .args .address) (c .before .before .before .before .args .tick)) _ _ _ _ _ (c .before .before .before .loop .inv .3) (c .moved .ensures) (search needs)))
-    (λ c. (all-moved _ _ _ _ _ _ _ (c .before .loop .inv .3) (c .before .loop .inv .0) (c .loop-test .left), all-fit _ _ _ _ _ _ _ (c .before .loop .inv .3) (c .before .loop .inv .0) (c .loop-test .left))))
+    (λ c. let c3 = c .before .before .before in
+    let c4 = c3 .before in (
+      search needs,
+      search needs,
+      search needs,
+      done-step (seatMoves (c4 .args .deed) (c4 .args .address) (c4 .args .tick)) _ _ _ _ _
+          (c3 .loop .inv .3) (c .moved .ensures) (search needs),
+    ))
+    (λ c. (
+      all-moved _ _ _ _ _ _ _ (c .before .loop .inv .3) (c .before .loop .inv .0) (c .loop-test .left),
+      all-fit _ _ _ _ _ _ _
+          (c .before .loop .inv .3) (c .before .loop .inv .0) (c .loop-test .left),
+    )))

@@ -1,4 +1,5 @@
 -- `plain::chips::any_listens` meets its contract, chip after chip. Assumes nothing.
+-- `c4` is the state four steps before `c`.
 use Prim.Native.Nat.{ℕ, _-_, _≤_}
 use mathlib.Core.Path.{_≡_, refl}
 use mathlib.Core.List.{List}
@@ -26,8 +27,11 @@ any-listens-spec =
     (λ c. search needs)
     (λ c. search needs)
     (λ c κs. search needs)
-    (λ c. one-listens _ _ _ (search needs) _ _ _ _ (c .before .listens .ensures) (c .before .before .before .loop-test .taken) (c .before .before .before .before .loop .inv .1) (c .if1 .taken))
+    (λ c. one-listens _ _ _ (search needs) _ _ _ _ (c .before .listens .ensures) (c .before .before .before .loop-test .taken)
+    (c .before .before .before .before .loop .inv .1) (c .if1 .taken))
     (λ c. search needs)
     (λ c. search needs)
-    (λ c. (search needs, not-this-one _ _ _ (search needs) _ _ _ _ (c .before .listens .ensures) (c .before .before .before .loop-test .taken) (c .before .before .before .before .loop .inv .1) (c .if1 .left)))
+    (λ c. let c3 = c .before .before .before in
+    let c4 = c3 .before in
+    (search needs, not-this-one _ _ _ (search needs) _ _ _ _ (c .before .listens .ensures) (c3 .loop-test .taken) (c4 .loop .inv .1) (c .if1 .left)))
     (λ c. none-listens _ _ _ (search needs) _ _ (c .loop-test .left) (c .before .loop .inv .1)))

@@ -1,4 +1,5 @@
 -- `store::Store::stores` meets its contract. Assumes nothing.
+-- `c4` is the state four steps before `c`.
 use Prim.Native.Nat.{_≤_, _-_}
 use borrow.Author.Needs.{needs}
 use lib.ListN.{length}
@@ -30,6 +31,14 @@ stores-spec =
     (λ c κs. search needs)
     (λ c. search needs)
     (λ c. search needs)
-    (λ c. (search needs, search needs, search needs, one-more _ _ _ _ _ _ _ (c .before .before .before .before .before .loop .inv .3) (c .before .before .store-one .ensures) (c .before .before .before .before .loop-test .taken) (c .before .before .before .before .before .before .before .page .ensures .most) (c .before .before .before .before .before .loop .inv .1)))
+    (λ c. let c4 = c .before .before .before .before in
+    let c5 = c4 .before in
+    let c7 = c5 .before .before in (
+      search needs,
+      search needs,
+      search needs,
+      one-more _ _ _ _ _ _ _ (c5 .loop .inv .3) (c .before .before .store-one .ensures)
+          (c4 .loop-test .taken) (c7 .page .ensures .most) (c5 .loop .inv .1),
+    ))
     (λ c. search needs)
     (λ c. search all-stored))
