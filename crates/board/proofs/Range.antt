@@ -58,7 +58,8 @@ module _ (marks : ℕ) (states : List ℕ) where
       pub out-of-range : not r ≡ true → (m : List ℕ) → false ≡ statesRight (bodies marks m states)
       out-of-range n m = go r n (here m)
         where
-          go : (z : Bool) → not z ≡ true → statesRight (bodiesFrom marks m states (8 - s) s) ≡ z && statesRight (bodiesFrom marks m states (8 - suc s) (suc s)) → false ≡ statesRight (bodies marks m states)
+          go : (z : Bool) → not z ≡ true → statesRight (bodiesFrom marks m states (8 - s) s) ≡ z && statesRight (bodiesFrom marks m states (8 - suc s) (suc s))
+              → false ≡ statesRight (bodies marks m states)
           go true n h = let z : _≡_ {A = ℕ} 0 1 = cc in absurd (omega arith)
           go false n h = sym h ∙ so-far m
 

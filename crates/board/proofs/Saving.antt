@@ -24,7 +24,8 @@ low-word p n m e = rw e (ap₂ (λ (a b : ℕ). wordBytes p (a ∷ b ∷ [])) (l
     high : (n : ℕ) → n % 65536 / 256 % 256 ≡ n / 256 % 256
     high n = omega arith
 
-pub put-so : (x : Seat) (t n : ℕ) (st r : List ℕ) → n ≡ x .free - t → r ≡ over (wordBytes (x .chip .store .pointer) (wordBytes (n % 65536) [])) st → r ≡ over (seatBytes t x []) st
+pub put-so : (x : Seat) (t n : ℕ) (st r : List ℕ) → n ≡ x .free - t → r ≡ over (wordBytes (x .chip .store .pointer) (wordBytes (n % 65536) [])) st
+    → r ≡ over (seatBytes t x []) st
 put-so x t n st r e h = h ∙ ap (λ (l : List ℕ). over l st) (low-word (x .chip .store .pointer) n (n % 65536) refl ∙ ap (λ (k : ℕ). wordBytes (x .chip .store .pointer) (wordBytes k [])) e)
 
 pub seat-row : (t n : ℕ) (xs : List Seat) (m : List ℕ) → stateRow (map (bodyOf t) (seated n xs m)) ≡ seatRow t n xs

@@ -140,7 +140,8 @@ module _ (asked t : ℕ) (e : Event) (n i a : ℕ) (xs : List Seated) (cs : List
       and-true true = refl
       and-true false = refl
 
-  pub one-passed : (x y : Bool) → x ≡ isDeaf (getD cs i d .chip .stage) → x ≡ true → y ≡ isBit e → y ≡ true → Hearing asked t e n (i + 1) (a + sizeOf (getD cs i d)) xs cs m up
+  pub one-passed : (x y : Bool) → x ≡ isDeaf (getD cs i d .chip .stage) → x ≡ true → y ≡ isBit e → y ≡ true
+      → Hearing asked t e n (i + 1) (a + sizeOf (getD cs i d)) xs cs m up
   one-passed x y p q r s = go e (sym r ∙ s) refl
     where
       go : (v : Event) → isBit v ≡ true → e ≡ v → Hearing asked t e n (i + 1) (a + sizeOf (getD cs i d)) xs cs m up
@@ -169,7 +170,8 @@ module _ (asked t : ℕ) (e : Event) (n i a : ℕ) (xs : List Seated) (cs : List
     hears-one y p b h l v = rw (length-is, size-is) (one-heard y p b (rw length-is at h) (rw length-is at l) v)
 
 -- the loop has gone over all
-pub all-have-heard : (asked t : ℕ) (e : Event) (n i a : ℕ) (xs : List Seated) (cs : List Seat) (m : List ℕ) (up : Bool) → Hearing asked t e n i a xs cs m up → i ≤ n → n ≤ i → length xs ≡ n
+pub all-have-heard : (asked t : ℕ) (e : Event) (n i a : ℕ) (xs : List Seated) (cs : List Seat) (m : List ℕ) (up : Bool) → Hearing asked t e n i a xs cs m up
+    → i ≤ n → n ≤ i → length xs ≡ n
     → (seated n cs m ≡ map (heard asked t e) xs) × (up ≡ allUp (seated n cs m))
 all-have-heard asked t e n i a xs cs m up h l r s = (
   done-end (heard asked t e) i xs (seated n cs m) (h .heard-so-far) (rw s r),

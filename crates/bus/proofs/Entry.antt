@@ -177,7 +177,8 @@ module _ (list : List ℕ) (marks : ℕ) (memory states held : List ℕ) (asked 
     unfolding busNumber
     number-1 e = let c : checkOf list ≡ TooLong = sym checked ∙ e in turned-down 1 (rw c) (λ z. omega arith)
 
-    pub number-2 : (b : Break) → x ≡ Broken b → traced (record { number = 2; ticks = 0 }) memory states results trace ≡ wireRun list marks memory states held asked results trace
+    pub number-2 : (b : Break) → x ≡ Broken b
+        → traced (record { number = 2; ticks = 0 }) memory states results trace ≡ wireRun list marks memory states held asked results trace
     unfolding busNumber
     number-2 b e = let c : checkOf list ≡ Broken b = sym checked ∙ e in turned-down 2 (rw c) (λ z. omega arith)
 
@@ -193,7 +194,8 @@ module _ (list : List ℕ) (marks : ℕ) (memory states held : List ℕ) (asked 
           first-said zero m z = absurd (z refl)
           first-said (suc n) m z = refl
 
-      pub number-7 : n ≡ 0 → length results < size → traced (record { number = 7; ticks = 0 }) memory states results trace ≡ wireRun list marks memory states held asked results trace
+      pub number-7 : n ≡ 0 → length results < size
+          → traced (record { number = 7; ticks = 0 }) memory states results trace ≡ wireRun list marks memory states held asked results trace
       unfolding busNumber
       number-7 z l =
           let a : length results < areaOf (transactionsOf list) = subst (λ (k : ℕ). length results < k) (holds list size listed .area) l in

@@ -38,7 +38,8 @@ module _ (P : Kept → Type 0) (taken : (x : ℕ) (k : Kept) → P k → P (take
   bit-keeps (Sending (suc n) x) free b c p = p
   bit-keeps Asking free b c p = answered-keeps P b (steps (c .kept)) (stepped (c .kept) p)
 
-  pub hears-keeps : ((k : Kept) → P k → P (starts k)) → ((q : Bool) (k : Kept) → P k → P (stops q k)) → (free : Bool) (e : Event) (c : Core) → P (c .kept) → P (hears free e c .kept)
+  pub hears-keeps : ((k : Kept) → P k → P (starts k)) → ((q : Bool) (k : Kept) → P k → P (stops q k)) → (free : Bool) (e : Event) (c : Core) → P (c .kept)
+      → P (hears free e c .kept)
   unfolding hears
   hears-keeps started stopped free Quiet c p = p
   hears-keeps started stopped free Started c p = started (c .kept) p

@@ -21,7 +21,8 @@ pub past-the-end : (m : Model) (size p b : ℕ) → size ≡ geometryOf m .size 
 past-the-end m size p b is h = rw (← is, le-ltb p size h)
 
 -- the four bytes of its state
-pub state-put : (p b : ℕ) (s s₁ s₂ s₃ s₄ : List ℕ) → p < 65536 → b < 65536 → s₁ ≡ set s 0 (p % 256) → s₂ ≡ set s₁ 1 (p / 256) → s₃ ≡ set s₂ 2 (b % 256) → s₄ ≡ set s₃ 3 (b / 256) → s₄ ≡ over (wordBytes p (wordBytes b [])) s
+pub state-put : (p b : ℕ) (s s₁ s₂ s₃ s₄ : List ℕ) → p < 65536 → b < 65536 → s₁ ≡ set s 0 (p % 256) → s₂ ≡ set s₁ 1 (p / 256) → s₃ ≡ set s₂ 2 (b % 256)
+    → s₄ ≡ set s₃ 3 (b / 256) → s₄ ≡ over (wordBytes p (wordBytes b [])) s
 state-put p b s s₁ s₂ s₃ s₄ l k e₁ e₂ e₃ e₄ =
     let i : p / 256 % 256 ≡ p / 256 = omega arith in
     let j : b / 256 % 256 ≡ b / 256 = omega arith in

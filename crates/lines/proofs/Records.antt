@@ -29,18 +29,21 @@ module _ (P : Party) where
   unfoldable pub leaves : ℕ → List ℕ → P .State → List ℕ → Left
   leaves i xs s lent = on i (drop i xs) s lent
 
-  pub from-first : (xs : List ℕ) (s : P .State) (lent : List ℕ) → leaves 0 xs s lent ≡ record { last = walk P xs s; drives = over (drivesOn P xs s) lent; ticks = length (drivesOn P xs s) }
+  pub from-first : (xs : List ℕ) (s : P .State) (lent : List ℕ)
+      → leaves 0 xs s lent ≡ record { last = walk P xs s; drives = over (drivesOn P xs s) lent; ticks = length (drivesOn P xs s) }
   unfolding leaves
   from-first xs s lent = rw (from-front (drivesOn P xs s) lent, zero-add (length (drivesOn P xs s)))
 
-  one-sample : (i x : ℕ) (ys : List ℕ) (s : P .State) (d : List ℕ) → P .ended s ≡ false → on (suc i) ys (P .tick (linesOf x) s) (set d i (byteOf (P .drive s))) ≡ on i (x ∷ ys) s d
+  one-sample : (i x : ℕ) (ys : List ℕ) (s : P .State) (d : List ℕ) → P .ended s ≡ false
+      → on (suc i) ys (P .tick (linesOf x) s) (set d i (byteOf (P .drive s))) ≡ on i (x ∷ ys) s d
   unfolding walk drivesOn
   one-sample i x ys s d n =
       let row : List ℕ = drivesOn P ys (P .tick (linesOf x) s) in
       let e : suc i + length row ≡ i + suc (length row) = omega arith in rw (n, one-byte i (byteOf (P .drive s)) row d, e)
 
   -- one tick: the drive byte is put, the sample is seen
-  pub one-tick : (i : ℕ) (xs : List ℕ) (s t : P .State) (d e : List ℕ) → P .ended s ≡ false → t ≡ P .tick (linesOf (getD xs i 0)) s → e ≡ set d i (byteOf (P .drive s)) → i < length xs → leaves (i + 1) xs t e ≡ leaves i xs s d
+  pub one-tick : (i : ℕ) (xs : List ℕ) (s t : P .State) (d e : List ℕ) → P .ended s ≡ false → t ≡ P .tick (linesOf (getD xs i 0)) s
+      → e ≡ set d i (byteOf (P .drive s)) → i < length xs → leaves (i + 1) xs t e ≡ leaves i xs s d
   unfolding leaves
   one-tick i xs s t d e n p q h = rw (p, q, add-one i, drop-cons xs i 0 h) (one-sample i (getD xs i 0) (drop (suc i) xs) s d n)
 

@@ -113,16 +113,21 @@ module _ (strap asked : ℕ) (memory state samples drives : List ℕ) where
 abbrev seeing : Eye → Core → ℕ → Watching
 seeing eye c busy = record { eye = eye; body = record { core = c; busy = busy } }
 
-pub rests : (eye : Eye) (c : Chip) (name : ℕ) (model : Model) (p busy : ℕ) → eye ≡ opened → ((m : List ℕ) → coreOf c m ≡ bodyAt name model p 0 m .core) → (m : List ℕ) → watchOf (record { eye = eye; chip = c; busy = busy }) m ≡ restOf (bodyAt name model p busy m)
+pub rests : (eye : Eye) (c : Chip) (name : ℕ) (model : Model) (p busy : ℕ) → eye ≡ opened → ((m : List ℕ) → coreOf c m ≡ bodyAt name model p 0 m .core)
+    → (m : List ℕ) → watchOf (record { eye = eye; chip = c; busy = busy }) m ≡ restOf (bodyAt name model p busy m)
 rests eye c name model p busy q h m = rw q (ap (λ (k : Core). seeing opened k busy) (h m))
 
 -- one tick of the chip with its eye
-pub ticked : (w : Watch) (m n : List ℕ) (asked : ℕ) (l : Lines) (e : Event) (eye : Eye) (k : Chip) (busy : ℕ) → e ≡ eventOf (w .eye) l → ((m : List ℕ) → busy ≡ busyAfter asked e (coreOf (w .chip) m) (w .busy)) → coreOf k n ≡ hears (eqb (w .busy) 0) e (coreOf (w .chip) m) → eye ≡ eyeAfter (w .eye) l → watchOf (record { eye = eye; chip = k; busy = busy }) n ≡ chip asked .tick l (watchOf w m)
+pub ticked : (w : Watch) (m n : List ℕ) (asked : ℕ) (l : Lines) (e : Event) (eye : Eye) (k : Chip) (busy : ℕ) → e ≡ eventOf (w .eye) l
+    → ((m : List ℕ) → busy ≡ busyAfter asked e (coreOf (w .chip) m) (w .busy)) → coreOf k n ≡ hears (eqb (w .busy) 0) e (coreOf (w .chip) m)
+    → eye ≡ eyeAfter (w .eye) l → watchOf (record { eye = eye; chip = k; busy = busy }) n ≡ chip asked .tick l (watchOf w m)
 unfolding bodyTick
 ticked w m n asked l e eye k busy q b h a = rw (a, ← q, b m) (ap (λ (c : Core). seeing (eyeAfter (w .eye) l) c (busyAfter asked e (coreOf (w .chip) m) (w .busy))) h)
 
 -- one turn of the loop over the samples
-pub turn : (asked i : ℕ) (xs : List ℕ) (w v : Watch) (m n d e : List ℕ) (r : Left (chip asked)) (drive l : Lines) (x : ℕ) → leaves (chip asked) i xs (watchOf w m) d ≡ r → drive ≡ hi ∥ sdaOf (w .chip .stage) → x ≡ byteOf drive → e ≡ set d i x → l ≡ linesOf (getD xs i 0) → watchOf v n ≡ chip asked .tick l (watchOf w m) → i < length xs → leaves (chip asked) (i + 1) xs (watchOf v n) e ≡ r
+pub turn : (asked i : ℕ) (xs : List ℕ) (w v : Watch) (m n d e : List ℕ) (r : Left (chip asked)) (drive l : Lines) (x : ℕ)
+    → leaves (chip asked) i xs (watchOf w m) d ≡ r → drive ≡ hi ∥ sdaOf (w .chip .stage) → x ≡ byteOf drive → e ≡ set d i x → l ≡ linesOf (getD xs i 0)
+    → watchOf v n ≡ chip asked .tick l (watchOf w m) → i < length xs → leaves (chip asked) (i + 1) xs (watchOf v n) e ≡ r
 turn asked i xs w v m n d e r drive l x inv a b p q t h =
     one-tick (chip asked) i xs (watchOf w m) (watchOf v n) d e refl (t ∙ ap (λ (y : Lines). chip asked .tick y (watchOf w m)) q) (p ∙ ap (λ (y : ℕ). set d i y) (b ∙ ap byteOf a)) h ∙ inv
 
@@ -133,14 +138,19 @@ drives-always asked [] s = refl
 drives-always asked (x ∷ xs) s = ap suc (drives-always asked xs (chip asked .tick (linesOf x) s))
 
 module _ (strap asked : ℕ) (memory state samples drives : List ℕ) where
-  pub turned-down : (n : ℕ) → n ≡ chipNumber strap memory state asked samples drives → (n ≡ 0 → ⊥) → leftBy (record { number = n; ticks = 0 }) memory state drives ≡ chipAlone strap memory state asked samples drives
+  pub turned-down : (n : ℕ) → n ≡ chipNumber strap memory state asked samples drives → (n ≡ 0 → ⊥)
+      → leftBy (record { number = n; ticks = 0 }) memory state drives ≡ chipAlone strap memory state asked samples drives
   unfolding chipAlone
   turned-down n e h = rw (← e, ne-eqb n 0 h)
 
   abbrev first : Watching
   first = restOf (bodyFrom strap Large memory state 0)
 
-  pub ran : (n p b : ℕ) (w₀ w : Watch) (m d s : List ℕ) → n ≡ chipNumber strap memory state asked samples drives → n ≡ 0 → p ≡ wordAt state 0 → b ≡ wordAt state 2 → ((k : List ℕ) → watchOf w₀ k ≡ restOf (bodyAt (80 + strap) Large p b k)) → watchOf w m ≡ walk (chip asked) samples (watchOf w₀ memory) → d ≡ over (drivesOn (chip asked) samples (watchOf w₀ memory)) drives → s ≡ over (wordBytes (w .chip .store .pointer) (wordBytes (w .busy) [])) state → leftBy (record { number = 0; ticks = length samples }) m s d ≡ chipAlone strap memory state asked samples drives
+  pub ran : (n p b : ℕ) (w₀ w : Watch) (m d s : List ℕ) → n ≡ chipNumber strap memory state asked samples drives → n ≡ 0 → p ≡ wordAt state 0
+      → b ≡ wordAt state 2 → ((k : List ℕ) → watchOf w₀ k ≡ restOf (bodyAt (80 + strap) Large p b k))
+      → watchOf w m ≡ walk (chip asked) samples (watchOf w₀ memory) → d ≡ over (drivesOn (chip asked) samples (watchOf w₀ memory)) drives
+      → s ≡ over (wordBytes (w .chip .store .pointer) (wordBytes (w .busy) [])) state
+      → leftBy (record { number = 0; ticks = length samples }) m s d ≡ chipAlone strap memory state asked samples drives
   unfolding chipAlone
   ran n p b w₀ w m d s e z pe be rest we de se =
       let row : s ≡ stateBytes (watchOf w m .body) [] = se ∙ over-whole _ state (sym (four-bytes strap asked memory state samples drives n e z)) in

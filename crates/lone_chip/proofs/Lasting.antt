@@ -56,7 +56,8 @@ run-right asked samples w a r = walk-keeps (chip asked) (λ (y : Watching). Righ
 pub word-back : (p : ℕ) (rest : List ℕ) → p < 65536 → wordAt (wordBytes p rest) 0 ≡ p
 word-back p rest h = omega arith
 
-right-again : (m : Model) (p b : ℕ) → m ≡ Large → p < geometryOf m .size → b ≤ mostBusy → (ltb (wordAt (wordBytes p (wordBytes b [])) 0) (geometryOf Large .size) && leb (wordAt (wordBytes b []) 0) mostBusy) ≡ true
+right-again : (m : Model) (p b : ℕ) → m ≡ Large → p < geometryOf m .size → b ≤ mostBusy
+    → (ltb (wordAt (wordBytes p (wordBytes b [])) 0) (geometryOf Large .size) && leb (wordAt (wordBytes b []) 0) mostBusy) ≡ true
 unfolding mostBusy
 right-again m p b e h l =
     let reach : geometryOf m .size ≤ 65536 = fits m .reach in

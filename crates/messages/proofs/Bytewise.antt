@@ -29,7 +29,8 @@ module _ (a t slot : ℕ) (holds m : List ℕ) where
   abbrev pub Writing : (list : List ℕ) → (from n i : ℕ) → Run → List ℕ → World → Type 0
   Writing list from n i x l goal = writesAll (listens a t) slot i (bytesAt (n - i) list (from + i)) (worldOf x holds m l) ≡ goal
 
-  pub none-written : (list : List ℕ) (from n : ℕ) (x : Run) (l : List ℕ) → Writing list from n 0 x l (writesAll (listens a t) slot 0 (bytesAt n list from) (worldOf x holds m l))
+  pub none-written : (list : List ℕ) (from n : ℕ) (x : Run) (l : List ℕ)
+      → Writing list from n 0 x l (writesAll (listens a t) slot 0 (bytesAt n list from) (worldOf x holds m l))
   none-written list from n x l = rw (sub-zero n, add-zero from)
 
   module _ (list : List ℕ) (from n i : ℕ) (x : Run) (l : List ℕ) (goal : World) (so-far : Writing list from n i x l goal) where
@@ -63,7 +64,8 @@ module _ (a t slot : ℕ) (holds m : List ℕ) where
         let j : k ≡ suc (k - 1) = omega arith in
         rw (add-one n, one-byte, qe) (rw j at so-far)
 
-    pub first-read : (k : ℕ) → n ≡ 0 → k ≡ follow q y → readsAll (listens a t) slot 1 q k (worldOf r holds m l′) ≡ carried (listens a t) slot (get q) (worldOf x holds m l)
+    pub first-read : (k : ℕ) → n ≡ 0 → k ≡ follow q y
+        → readsAll (listens a t) slot 1 q k (worldOf r holds m l′) ≡ carried (listens a t) slot (get q) (worldOf x holds m l)
     unfolding worldOf
     first-read k z e =
         ap₂ (λ (i : ℕ) (w : World). readsAll (listens a t) slot 1 q i w) (e ∙ ap (follow q) sent) (one-byte ∙ ap (λ (i : ℕ). readsOne (listens a t) slot i q (worldOf x holds m l)) z)

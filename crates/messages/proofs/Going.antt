@@ -75,7 +75,8 @@ answered-so holds s x p a e r ae te said m l =
 
 -- STOP
 
-pub closed-so : (holds : List ℕ) (x : Run) (m m′ l l′ : List ℕ) (asked top : ℕ) (e : Time) (ys : List Seat) → Sound x m → Passes holds (symbol (timeOf (x .time) holds)) (x .time .now + symbolMost) e
+pub closed-so : (holds : List ℕ) (x : Run) (m m′ l l′ : List ℕ) (asked top : ℕ) (e : Time) (ys : List Seat) → Sound x m
+    → Passes holds (symbol (timeOf (x .time) holds)) (x .time .now + symbolMost) e
     → cellsOf (x .count) ys m′ ≡ map (stores asked (e .now)) (cellsOf (x .count) (x .seats) m) → offset (x .count) ys ≡ length m′ → l′ ≡ set l top 0
     → Comes holds m′ l′ (closes asked top (worldOf x holds m l)) (x .time .now + symbolMost) (record { time = e; count = x .count; seats = ys })
 unfolding worldOf note

@@ -15,7 +15,8 @@ use Rattle.messages.specs.declared.Run.{Run}
 use Rattle.messages.specs.declared.Place.{Place}
 use Rattle.messages.proofs.Going.{begun}
 
-pub whole-so : (holds list : List ℕ) (x : Run) (m l : List ℕ) (p f : Place) (asked low high k : ℕ) (b sent r : Run) (l′ m″ l″ : List ℕ) → low ≡ getD list (p .at + 1) 0 → high ≡ getD list (p .at + 2) 0
+pub whole-so : (holds list : List ℕ) (x : Run) (m l : List ℕ) (p f : Place) (asked low high k : ℕ) (b sent r : Run) (l′ m″ l″ : List ℕ)
+    → low ≡ getD list (p .at + 1) 0 → high ≡ getD list (p .at + 2) 0
     → low < 256 → high < 256 → Opens holds (low + 256 * high + 4) x b → f ≡ opened p → k ≡ others list p
     → Comes holds m l′ (messages (slotsAt k list (beyond list f)) (slotOf list f) (worldOf b holds m l)) (b .time .now + messagesMost) sent
     → Comes holds m″ l″ (closes asked (p .slot) (worldOf sent holds m l′)) (sent .time .now + symbolMost) r

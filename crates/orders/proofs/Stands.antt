@@ -79,7 +79,8 @@ parse-stands (suc n) (suc left) s p ms ts e = cases (messageAt s p) refl (λ q m
 
 -- ---- and what stands there is read
 
-pub stands-parse : {s : List ℕ} {p : ℕ} {ms : List Message} {ts : List Transaction} → Stands s p ms ts → (n : ℕ) → length s - p < n → parse n (length ms) s p ≡ right ms ts
+pub stands-parse : {s : List ℕ} {p : ℕ} {ms : List Message} {ts : List Transaction} → Stands s p ms ts → (n : ℕ) → length s - p < n
+    → parse n (length ms) s p ≡ right ms ts
 unfolding parse
 stands-parse st zero h = absurd (omega arith)
 stands-parse (ended l) (suc n) h = simp tests

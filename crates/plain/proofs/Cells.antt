@@ -104,7 +104,8 @@ module _ (n i : ℕ) (xs : List Seat) (room : n ≤ length xs) (a t : ℕ) (d : 
     not-this-value e = rw (add-one i) (rw (cells-from n xs room m i d h, ← looked, e) at so-far)
 
 module _ (n i : ℕ) (xs : List Seat) (room : n ≤ length xs) (a t : ℕ) (h : n ≤ i) where
-  pub none-listens : ((m : List ℕ) → anyOf (listens a t) (drop i (cellsOf n xs m)) ≡ anyOf (listens a t) (cellsOf n xs m)) → (m : List ℕ) → false ≡ anyOf (listens a t) (cellsOf n xs m)
+  pub none-listens : ((m : List ℕ) → anyOf (listens a t) (drop i (cellsOf n xs m)) ≡ anyOf (listens a t) (cellsOf n xs m)) → (m : List ℕ)
+      → false ≡ anyOf (listens a t) (cellsOf n xs m)
   none-listens so-far m = rw (cells-end n xs room m i h) at (so-far m)
 
   pub no-value : (m : List ℕ) → valueOf (listens a t) (drop i (cellsOf n xs m)) ≡ valueOf (listens a t) (cellsOf n xs m) → 255 ≡ valueOf (listens a t) (cellsOf n xs m)

@@ -65,12 +65,14 @@ module _ (list : List ℕ) (marks : ℕ) (memory states held : List ℕ) (asked 
   abbrev number : ℕ
   number = busNumber list marks memory states held asked results
 
-  turned-down : (n : ℕ) (a : Answer) → number ≡ suc n → a ≡ record { number = suc n; ticks = 0 } → outcomeOf a memory states results ≡ plainRun list marks memory states held asked results
+  turned-down : (n : ℕ) (a : Answer) → number ≡ suc n → a ≡ record { number = suc n; ticks = 0 }
+      → outcomeOf a memory states results ≡ plainRun list marks memory states held asked results
   unfolding plainRun
   turned-down n a e ae = rw (e, ne-eqb (suc n) 0 (λ z. omega arith), ae)
 
   module _ (x : Checked) (checked : x ≡ checkOf list) where
-    pub too-long : (a : Answer) → x ≡ TooLong → a ≡ record { number = 1; ticks = 0 } → outcomeOf a memory states results ≡ plainRun list marks memory states held asked results
+    pub too-long : (a : Answer) → x ≡ TooLong → a ≡ record { number = 1; ticks = 0 }
+        → outcomeOf a memory states results ≡ plainRun list marks memory states held asked results
     unfolding busNumber
     too-long a c ae = let first : number ≡ 1 = rw (← checked, c) in turned-down 0 a first ae
 
@@ -87,7 +89,8 @@ module _ (list : List ℕ) (marks : ℕ) (memory states held : List ℕ) (asked 
     unfolding busNumber
     after-list = rw (right, ← board, holds list size right .area)
 
-    pub board-wrong : (a : Answer) → a ≡ record { number = n; ticks = 0 } → (n ≡ 0 → ⊥) → outcomeOf a memory states results ≡ plainRun list marks memory states held asked results
+    pub board-wrong : (a : Answer) → a ≡ record { number = n; ticks = 0 } → (n ≡ 0 → ⊥)
+        → outcomeOf a memory states results ≡ plainRun list marks memory states held asked results
     board-wrong a ae h = cases n after-list ae h
       where
         cases : (k : ℕ) → number ≡ k then no 7 (ltb (length results) size) → a ≡ record { number = k; ticks = 0 } → (k ≡ 0 → ⊥)
@@ -96,7 +99,8 @@ module _ (list : List ℕ) (marks : ℕ) (memory states held : List ℕ) (asked 
         cases (suc k) e ae h = turned-down k a e ae
 
     module _ (fine : n ≡ 0) where
-      pub area-too-small : (a : Answer) → a ≡ record { number = 7; ticks = 0 } → length results < size → outcomeOf a memory states results ≡ plainRun list marks memory states held asked results
+      pub area-too-small : (a : Answer) → a ≡ record { number = 7; ticks = 0 } → length results < size
+          → outcomeOf a memory states results ≡ plainRun list marks memory states held asked results
       area-too-small a ae h = turned-down 6 a (after-list ∙ rw (fine, lt-ltb (length results) size h)) ae
 
       -- accepted

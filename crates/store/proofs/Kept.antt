@@ -52,7 +52,8 @@ pub record Sound (k : Kept) : Type 0 where
   pub latch : length (k .store .latch) ≡ 32
   pub bytes : allWithin 255 (k .memory) ≡ true
 
-pub sound-at-rest : (name : ℕ) (model : Model) (p : ℕ) (m : List ℕ) → p < geometryOf model .size → length m ≡ geometryOf model .size → allWithin 255 m ≡ true → Sound (keptAt name model p m)
+pub sound-at-rest : (name : ℕ) (model : Model) (p : ℕ) (m : List ℕ) → p < geometryOf model .size → length m ≡ geometryOf model .size → allWithin 255 m ≡ true
+    → Sound (keptAt name model p m)
 unfolding blankLatch
 sound-at-rest name model p m h l b = record { pointer = h; memory = l; latch = refl; bytes = b }
 

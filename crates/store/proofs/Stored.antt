@@ -53,7 +53,8 @@ past-stored (suc k) base i d l m h =
     other-one (stored k base l m) (base + k) (getD l k 256) i d (λ e. omega arith) ∙ past-stored k base i d l m (omega arith)
 
 -- a place for which nothing is latched keeps its byte
-blank-next : (base j k d : ℕ) (l m : List ℕ) (q : Bool) → eqb j k ≡ q → 256 ≤ getD l j 256 → getD (storeOne m (base + k) (getD l k 256)) (base + j) d ≡ getD m (base + j) d
+blank-next : (base j k d : ℕ) (l m : List ℕ) (q : Bool) → eqb j k ≡ q → 256 ≤ getD l j 256
+    → getD (storeOne m (base + k) (getD l k 256)) (base + j) d ≡ getD m (base + j) d
 blank-next base j k d l m true e h = blank-one m (base + k) (getD l k 256) (base + j) d (rw (eqb-true j k e) at h)
 blank-next base j k d l m false e h = other-one m (base + k) (getD l k 256) (base + j) d (λ p. eqb-false j k e (omega arith))
 
@@ -63,7 +64,8 @@ blank-stored zero base j d l m h = refl
 blank-stored (suc k) base j d l m h = blank-next base j k d l (stored k base l m) (eqb j k) refl h ∙ blank-stored k base j d l m h
 
 -- a latched byte is there
-byte-next : (base j k d : ℕ) (l m : List ℕ) (q : Bool) → eqb j k ≡ q → getD l j 256 < 256 → base + k < length m → (j < k → getD m (base + j) d ≡ getD l j 256) → j < suc k → getD (storeOne m (base + k) (getD l k 256)) (base + j) d ≡ getD l j 256
+byte-next : (base j k d : ℕ) (l m : List ℕ) (q : Bool) → eqb j k ≡ q → getD l j 256 < 256 → base + k < length m → (j < k → getD m (base + j) d ≡ getD l j 256)
+    → j < suc k → getD (storeOne m (base + k) (getD l k 256)) (base + j) d ≡ getD l j 256
 byte-next base j k d l m true e h f r i =
     let same : j ≡ k = eqb-true j k e in rw same (same-one m (base + k) (getD l k 256) d (rw same at h) f)
 byte-next base j k d l m false e h f r i =
@@ -112,6 +114,7 @@ module _ (k : Kept) where
     unlatched true h = rw place at (blank-stored (geo (k .store) .page) (pageStart (geo (k .store)) (k .store .pointer)) (i % geo (k .store) .page) d (k .store .latch) (k .memory) h)
 
     -- a latched byte is stored
-    pub latched : 0 < geo (k .store) .page → pageStart (geo (k .store)) (k .store .pointer) + geo (k .store) .page ≤ length (k .memory) → getD (k .store .latch) (i % geo (k .store) .page) 256 < 256 → getD (stops true k .memory) i d ≡ getD (k .store .latch) (i % geo (k .store) .page) 256
+    pub latched : 0 < geo (k .store) .page → pageStart (geo (k .store)) (k .store .pointer) + geo (k .store) .page ≤ length (k .memory)
+        → getD (k .store .latch) (i % geo (k .store) .page) 256 < 256 → getD (stops true k .memory) i d ≡ getD (k .store .latch) (i % geo (k .store) .page) 256
     unfolding stops
     latched some whole h = rw place at (byte-stored (geo (k .store) .page) (pageStart (geo (k .store)) (k .store .pointer)) (i % geo (k .store) .page) d (k .store .latch) (k .memory) h (mod-lt i some) whole)

@@ -17,11 +17,13 @@ unfolding blankLatch
 blank = refl
 
 -- a data byte goes to its place in the page, and the pointer round in it
-pub latches-data : (s : Store) (p place x : ℕ) → p ≡ pageStep (geo s) (s .pointer) → place ≡ s .pointer % geo s .page → record { name = s .name; model = s .model; pointer = p; want = 0; high = 0; latched = true; latch = set (s .latch) place x } ≡ takesAt 0 x s
+pub latches-data : (s : Store) (p place x : ℕ) → p ≡ pageStep (geo s) (s .pointer) → place ≡ s .pointer % geo s .page
+    → record { name = s .name; model = s .model; pointer = p; want = 0; high = 0; latched = true; latch = set (s .latch) place x } ≡ takesAt 0 x s
 latches-data s p place x h q = rw (h, q)
 
 -- a byte was sent: the pointer goes round in the memory
-pub sends-data : (s : Store) (p : ℕ) → p ≡ readStep (geo s) (s .pointer) → record { name = s .name; model = s .model; pointer = p; want = s .want; high = s .high; latched = s .latched; latch = s .latch } ≡ stepped s
+pub sends-data : (s : Store) (p : ℕ) → p ≡ readStep (geo s) (s .pointer)
+    → record { name = s .name; model = s .model; pointer = p; want = s .want; high = s .high; latched = s .latched; latch = s .latch } ≡ stepped s
 sends-data s p h = rw h
 
 -- START: so many pointer bytes are to come
@@ -31,16 +33,19 @@ begins-anew s r n h e = h ∙ ap (λ (y : ℕ). emptied y s) e
 pub takes-data : (s r : Store) (x : ℕ) → s .want ≡ 0 → r ≡ takesAt 0 x s → r ≡ takesAt (s .want) x s
 takes-data s r x e h = h ∙ ap (λ (n : ℕ). takesAt n x s) (sym e)
 
-pub takes-pointer : (s : Store) (p x : ℕ) → s .want ≡ 1 → p ≡ pointerOf (geo s) (s .high) x → record { name = s .name; model = s .model; pointer = p; want = 0; high = 0; latched = s .latched; latch = s .latch } ≡ takesAt (s .want) x s
+pub takes-pointer : (s : Store) (p x : ℕ) → s .want ≡ 1 → p ≡ pointerOf (geo s) (s .high) x
+    → record { name = s .name; model = s .model; pointer = p; want = 0; high = 0; latched = s .latched; latch = s .latch } ≡ takesAt (s .want) x s
 takes-pointer s p x e h = rw (e, h)
 
 -- one pointer byte alone changes no pointer
-wants-more : (n x : ℕ) (s : Store) → 2 ≤ n → record { name = s .name; model = s .model; pointer = s .pointer; want = n - 1; high = x; latched = s .latched; latch = s .latch } ≡ takesAt n x s
+wants-more : (n x : ℕ) (s : Store) → 2 ≤ n
+    → record { name = s .name; model = s .model; pointer = s .pointer; want = n - 1; high = x; latched = s .latched; latch = s .latch } ≡ takesAt n x s
 wants-more zero x s h = absurd (omega arith)
 wants-more (suc zero) x s h = absurd (omega arith)
 wants-more (suc (suc n)) x s h = let e : suc (suc n) - 1 ≡ suc n = omega arith in rw e
 
-pub takes-high : (s : Store) (x : ℕ) → (s .want ≡ 0 → ⊥) → (s .want ≡ 1 → ⊥) → record { name = s .name; model = s .model; pointer = s .pointer; want = s .want - 1; high = x; latched = s .latched; latch = s .latch } ≡ takesAt (s .want) x s
+pub takes-high : (s : Store) (x : ℕ) → (s .want ≡ 0 → ⊥) → (s .want ≡ 1 → ⊥)
+    → record { name = s .name; model = s .model; pointer = s .pointer; want = s .want - 1; high = x; latched = s .latched; latch = s .latch } ≡ takesAt (s .want) x s
 takes-high s x a b = let l : 2 ≤ s .want = omega arith in wants-more (s .want) x s l
 
 pub byte-is : (k : Kept) → getD (k .memory) (k .store .pointer) 0 ≡ byteNow k
@@ -63,18 +68,21 @@ pub none-yet : (base : ℕ) (l m : List ℕ) → m ≡ stored 0 base l m
 unfolding stored
 none-yet base l m = refl
 
-pub one-more : (k page base : ℕ) (l m₀ m n : List ℕ) → m ≡ stored k base l m₀ → n ≡ storeOne m (base + k) (getD l k 0) → k < page → page ≤ 32 → length l ≡ 32 → n ≡ stored (k + 1) base l m₀
+pub one-more : (k page base : ℕ) (l m₀ m n : List ℕ) → m ≡ stored k base l m₀ → n ≡ storeOne m (base + k) (getD l k 0) → k < page → page ≤ 32 → length l ≡ 32
+    → n ≡ stored (k + 1) base l m₀
 unfolding stored
 one-more k page base l m₀ m n e h i j q = let within : k < length l = omega arith in rw (add-one k, ← e, default l k 256 0 within) h
 
 same-stored : (k n b c : ℕ) (l m₀ m : List ℕ) → k ≡ n → b ≡ c → m ≡ stored k b l m₀ → m ≡ stored n c l m₀
 same-stored k n b c l m₀ m p q e = rw (← p, ← q) e
 
-pub all-stored : (s : Store) (k page base : ℕ) (m₀ m : List ℕ) → page ≡ geo s .page → base ≡ pageStart (geo s) (s .pointer) → m ≡ stored k base (s .latch) m₀ → k ≤ page → page ≤ k → m ≡ stored (geo s .page) (pageStart (geo s) (s .pointer)) (s .latch) m₀
+pub all-stored : (s : Store) (k page base : ℕ) (m₀ m : List ℕ) → page ≡ geo s .page → base ≡ pageStart (geo s) (s .pointer) → m ≡ stored k base (s .latch) m₀
+    → k ≤ page → page ≤ k → m ≡ stored (geo s .page) (pageStart (geo s) (s .pointer)) (s .latch) m₀
 all-stored s k page base m₀ m p b e l h =
     let q : k ≡ page = omega arith in same-stored k (geo s .page) base (pageStart (geo s) (s .pointer)) (s .latch) m₀ m (q ∙ p) b e
 
-pub stops-due : (s r : Store) (due : Bool) (m n : List ℕ) → due ≡ true → r ≡ emptied 0 s → n ≡ stored (geo s .page) (pageStart (geo s) (s .pointer)) (s .latch) m → keptOf r n ≡ stops due (keptOf s m)
+pub stops-due : (s r : Store) (due : Bool) (m n : List ℕ) → due ≡ true → r ≡ emptied 0 s
+    → n ≡ stored (geo s .page) (pageStart (geo s) (s .pointer)) (s .latch) m → keptOf r n ≡ stops due (keptOf s m)
 unfolding stops
 stops-due s r due m n d e h = rw (d, e, h)
 

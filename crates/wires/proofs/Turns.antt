@@ -40,7 +40,8 @@ module _ (list holds : List ℕ) (asked : ℕ) where
   unfoldable pub finish : ℕ → Ran (places list) asked → List ℕ → Finished
   finish t r trace = record { last = r .last; ticks = t + length (r .row); trace = overFrom t (r .row) trace }
 
-  finish-more : (t : ℕ) (l : Lines) (r : Ran (places list) asked) (trace : List ℕ) → finish t (oneMore (places list) asked l r) trace ≡ finish (suc t) r (set trace t (byteOf l))
+  finish-more : (t : ℕ) (l : Lines) (r : Ran (places list) asked) (trace : List ℕ)
+      → finish t (oneMore (places list) asked l r) trace ≡ finish (suc t) r (set trace t (byteOf l))
   unfolding finish
   finish-more t l r trace =
       ap₂ (λ (n : ℕ) (tr : List ℕ). record { last = r .last; ticks = n; trace = tr }) (num t (length (r .row))) (sym (one-byte t (byteOf l) (r .row) trace))
@@ -91,7 +92,8 @@ module _ (list holds : List ℕ) (asked : ℕ) where
   unfolding finish
   finish-all r trace = ap₂ (λ (n : ℕ) (tr : List ℕ). record { last = r .last; ticks = n; trace = tr }) (zero-add (length (r .row))) (from-front (r .row) trace)
 
-  went : (start last : Wires.Bus Spot) (ticks : ℕ) (lent trace : List ℕ) → record { last = last; ticks = ticks; trace = trace } ≡ finish 0 (run (places list) asked limit start) lent
+  went : (start last : Wires.Bus Spot) (ticks : ℕ) (lent trace : List ℕ)
+      → record { last = last; ticks = ticks; trace = trace } ≡ finish 0 (run (places list) asked limit start) lent
       → Went list asked start lent last ticks trace
   went start last ticks lent trace e =
       let g = e ∙ finish-all (run (places list) asked limit start) lent in
