@@ -1,25 +1,18 @@
 // The whole bench sheet, unstarred cases included, over the wires and by the plain reading: a line for each case and each way, held against stored output.
 // A line: the number, the ticks, the result area, the pointer, the busy ticks left, and the bytes at places 0, 16, 31 and 32.
+use eeprom::word_at;
 use io::print_decimal;
 use io::print_hex;
 use io::write_all;
 use lent::Answer;
 use lent::byte_at;
 use libc::STDOUT_FILENO;
-use orders::Checked;
 use orders::check;
+use printing::write_hex;
 
 fn number(n: u64) {
     write_all(STDOUT_FILENO, b" ");
     print_decimal(STDOUT_FILENO, n);
-}
-
-fn write_hex(bytes: &[u8], n: usize) {
-    let mut i = 0;
-    while i < n {
-        print_hex(STDOUT_FILENO, byte_at(bytes, i) as u64, 2);
-        i += 1;
-    }
 }
 
 fn hex(bytes: &[u8], n: usize) {
@@ -32,28 +25,14 @@ fn byte(bytes: &[u8], at: usize) {
     print_hex(STDOUT_FILENO, byte_at(bytes, at) as u64, 2);
 }
 
-fn word(bytes: &[u8], at: u8) {
-    let low = byte_at(bytes, at as usize);
-    let high = byte_at(bytes, at as usize + 1);
-    number(low as u64 + 256 * (high as u64));
-}
-
-fn size(list: &[u8]) -> usize {
-    match check(list) {
-        Checked::Accepted(size) => size,
-        Checked::TooLong => 0,
-        Checked::Broken(_) => 0,
-    }
-}
-
 fn line(answer: Answer, results: &[u8], n: usize, states: &[u8], memory: &[u8]) {
     number(answer.number as u64);
     number(answer.ticks as u64);
     if answer.number == 0 {
         hex(results, n);
     }
-    word(states, 0);
-    word(states, 2);
+    number(word_at(states, 0) as u64);
+    number(word_at(states, 2) as u64);
     byte(memory, 0);
     byte(memory, 16);
     byte(memory, 31);
@@ -77,7 +56,8 @@ fn over_wires(list: &[u8], state: [u8; 4], holds: &[u8], bytes: [u8; 4096]) {
         &mut trace[..0],
     );
     write_all(STDOUT_FILENO, b"wires");
-    line(answer, &results, size(list), &states, &memory);
+    let checked = check(list);
+    line(answer, &results, checked.room(), &states, &memory);
 }
 
 fn by_reading(list: &[u8], state: [u8; 4], holds: &[u8], bytes: [u8; 4096]) {
@@ -86,7 +66,8 @@ fn by_reading(list: &[u8], state: [u8; 4], holds: &[u8], bytes: [u8; 4096]) {
     let mut results = [170u8; 1024];
     let answer = reading::read(list, 1, &mut memory, &mut states, holds, 8000, &mut results);
     write_all(STDOUT_FILENO, b"plain");
-    line(answer, &results, size(list), &states, &memory);
+    let checked = check(list);
+    line(answer, &results, checked.room(), &states, &memory);
 }
 
 fn on(list: &[u8], state: [u8; 4], holds: &[u8], bytes: [u8; 4096]) {

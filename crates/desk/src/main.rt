@@ -2,14 +2,12 @@
 // or the number of the refusal. All that matters is in the proved library.
 use bus::run;
 use io::print_decimal;
-use io::print_hex;
 use io::read_full;
 use io::write_all;
-use lent::byte_at;
 use libc::STDIN_FILENO;
 use libc::STDOUT_FILENO;
-use orders::Checked;
 use orders::check;
+use printing::write_hex;
 
 // The program's own bound on its input, no entry's.
 const MOST_INPUT: usize = 512;
@@ -18,15 +16,6 @@ fn refuse(number: u8) {
     write_all(STDOUT_FILENO, b"refused ");
     print_decimal(STDOUT_FILENO, number as u64);
     write_all(STDOUT_FILENO, b"\n");
-}
-
-// The first n bytes, in lower case, no blanks inside.
-fn write_hex(bytes: &[u8], n: usize) {
-    let mut i = 0;
-    while i < n {
-        print_hex(STDOUT_FILENO, byte_at(bytes, i) as u64, 2);
-        i += 1;
-    }
 }
 
 fn report(results: &[u8], n: usize, ticks: usize) {
@@ -38,15 +27,6 @@ fn report(results: &[u8], n: usize, ticks: usize) {
     write_all(STDOUT_FILENO, b"\nticks ");
     print_decimal(STDOUT_FILENO, ticks as u64);
     write_all(STDOUT_FILENO, b"\n");
-}
-
-// The results that the list asks for.
-fn size(list: &[u8]) -> usize {
-    match check(list) {
-        Checked::Accepted(size) => size,
-        Checked::TooLong => 0,
-        Checked::Broken(_) => 0,
-    }
 }
 
 // Chip 0 only, memory all FF, pointer 0, not busy, asked busy time 8,000, hold list empty.
@@ -70,7 +50,8 @@ fn bench(list: &[u8]) {
         refuse(answer.number);
         return;
     }
-    report(&results, size(list), answer.ticks);
+    let checked = check(list);
+    report(&results, checked.room(), answer.ticks);
 }
 
 fn main() {

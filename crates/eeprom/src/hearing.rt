@@ -11,6 +11,7 @@ use crate::Chip;
 use crate::Stage;
 use lines::Event;
 use lines::bit_at;
+use lines::one_less;
 use lines::shifted;
 use store::Model;
 use store::Store;
@@ -201,17 +202,10 @@ impl Chip {
         ensures { λ r. ⌜ ((m : List ℕ) → r ≡ busyAfter asked event (coreOf self m) busy) ⌝ }
     {
         match event {
-            Event::Quiet => fallen(busy),
-            Event::Started => fallen(busy),
-            Event::Stopped => if self.due() { asked } else { fallen(busy) },
-            Event::Bit(_) => fallen(busy),
+            Event::Quiet => one_less(busy),
+            Event::Started => one_less(busy),
+            Event::Stopped => if self.due() { asked } else { one_less(busy) },
+            Event::Bit(_) => one_less(busy),
         }
     }
-}
-
-// One tick less.
-fn fallen(busy: u16) -> u16
-    ensures { λ r. ⌜ r ≡ busy - 1 ⌝ }
-{
-    if 0 < busy { busy - 1 } else { 0 }
 }

@@ -3,9 +3,7 @@ ghost use mathlib.Core.Path.{_≡_};
 ghost use Prim.Native.Nat.{_-_, _<_};
 ghost use Rattle.kinds.specs.Kinds.{isWrite, isCritical, kindRight, addressRight, countRight, lengthRight, dataOf, askedOf, quotaOf, follow, remain};
 
-// The most that a list has in bytes, a transaction in messages, a message in bytes written or asked for.
-pub const MOST_BYTES: usize = 4096;
-
+// The most that a transaction has in messages, a message in bytes written or asked for.
 pub const MOST_MESSAGES: u8 = 8;
 
 pub const MOST_LENGTH: u8 = 64;

@@ -1,5 +1,6 @@
 // The two wires: their levels in a tick, the byte that stands for them, and what two neighbouring ticks of them say.
 ghost use mathlib.Core.Path.{_≡_};
+ghost use Prim.Native.Nat.{_-_};
 ghost use Rattle.lines.specs.Levels.{released, bitAt, shifted, byteOf, linesOf};
 ghost use Rattle.lines.specs.Events.{delivered, note, eventOf, eyeAfter, opened, isQuiet};
 
@@ -178,4 +179,11 @@ impl Eye {
             noted: next,
         }
     }
+}
+
+// One tick less of a time that is counted down, and 0 of 0.
+pub fn one_less(n: u16) -> u16
+    ensures { λ r. ⌜ r ≡ n - 1 ⌝ }
+{
+    if 0 < n { n - 1 } else { 0 }
 }

@@ -67,3 +67,9 @@ abbrev pub listNumber : Checked → ℕ
 listNumber (Accepted size) = 0
 listNumber TooLong = 1
 listNumber (Broken b) = 2
+
+-- the result area that it asks for
+abbrev pub roomOf : Checked → ℕ
+roomOf (Accepted size) = size
+roomOf TooLong = 0
+roomOf (Broken b) = 0

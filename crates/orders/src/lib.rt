@@ -4,11 +4,10 @@ ghost use Prim.Native.Nat.{suc, _+_, _-_, _*_, _<_, _≤_};
 ghost use lib.ListN.{length};
 ghost use Rattle.kinds.specs.Kinds.{mostBytes};
 ghost use Rattle.orders.specs.Form.{breaks, messageAt};
-ghost use Rattle.orders.specs.Results.{checkOf, listNumber};
+ghost use Rattle.orders.specs.Results.{checkOf, listNumber, roomOf};
 ghost use Rattle.orders.specs.Check.{foundAs, Tells};
 ghost use Rattle.orders.specs.Places.{sizeAt, roomAt};
 ghost use Rattle.orders.specs.Start.{zeroed, outcomesFrom, startedOf};
-use kinds::MOST_BYTES;
 use kinds::asked_of;
 use kinds::data_of;
 use kinds::is_address;
@@ -18,6 +17,9 @@ use kinds::is_length;
 use kinds::one_less;
 use lent::byte_at;
 use lent::put_at;
+
+// The most that a list has in bytes.
+pub const MOST_BYTES: usize = 4096;
 
 // Which rule of the form a list breaks.
 pub enum Rule {
@@ -50,6 +52,17 @@ impl Checked {
             Checked::Accepted(_) => 0,
             Checked::TooLong => 1,
             Checked::Broken(_) => 2,
+        }
+    }
+
+    // The result area that it asks for, 0 if it is turned down.
+    pub fn room(self) -> usize
+        ensures { λ r. ⌜ r ≡ roomOf self ⌝ }
+    {
+        match self {
+            Checked::Accepted(size) => size,
+            Checked::TooLong => 0,
+            Checked::Broken(_) => 0,
         }
     }
 }

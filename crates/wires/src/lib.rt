@@ -15,6 +15,7 @@ use lent::put_at;
 use lines::Event;
 use lines::Eye;
 use lines::Lines;
+use lines::one_less;
 use orders::start;
 use symbols::Begin;
 use symbols::Phase;
@@ -68,12 +69,6 @@ impl Holder {
             }
         }
     }
-}
-
-fn one_less(n: u16) -> u16
-    ensures { λ r. ⌜ r ≡ n - 1 ⌝ }
-{
-    if 0 < n { n - 1 } else { 0 }
 }
 
 // All parties but the chips; `up` is the SDA that the chips leave.

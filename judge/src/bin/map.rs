@@ -17,17 +17,15 @@ enum Place {
 }
 
 fn read_all(folder: &str) -> String {
-    let Ok(entries) = fs::read_dir(folder) else { return String::new() };
-    entries.map(|e| e.unwrap().path()).filter(|p| p.is_file()).map(|p| fs::read_to_string(p).unwrap_or_default()).collect()
+    let paths = fs::read_dir(folder).into_iter().flatten().map(|entry| entry.unwrap().path());
+    paths.filter(|path| path.is_file()).map(|path| fs::read_to_string(path).unwrap_or_default()).collect()
 }
 
 /// A line of the file gives the name's type, or says what kind of thing it is.
 fn defines(file: &str, name: &str) -> bool {
-    fs::read_to_string(file).is_ok_and(|text| {
-        text.lines().any(|line| {
-            let words: Vec<&str> = line.split_whitespace().filter(|w| !["pub", "abbrev", "unfoldable", "record", "data"].contains(w)).collect();
-            words.first() == Some(&name) || words.iter().take_while(|w| **w != ":").any(|w| *w == name) && words.contains(&":")
-        })
+    fs::read_to_string(file).unwrap_or_default().lines().any(|line| {
+        let words: Vec<&str> = line.split_whitespace().filter(|w| !["pub", "abbrev", "unfoldable", "record", "data"].contains(w)).collect();
+        words.first() == Some(&name) || words.iter().take_while(|w| **w != ":").any(|w| *w == name) && words.contains(&":")
     })
 }
 
@@ -35,7 +33,7 @@ fn defines(file: &str, name: &str) -> bool {
 fn in_source(source: &str, path: &str) -> bool {
     let text = read_all(source);
     let (owner, name) = path.rsplit_once("::").map_or((None, path), |(o, n)| (Some(o), n));
-    let owned = owner.is_none_or(|o| text.contains(&format!("impl {o} ")));
+    let owned = owner.map_or(true, |o| text.contains(&format!("impl {o} ")));
     owned && [format!("fn {name}("), format!("struct {name} "), format!("enum {name} ")].iter().any(|item| text.contains(item.as_str()))
 }
 

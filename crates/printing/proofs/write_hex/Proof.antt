@@ -1,8 +1,8 @@
--- `bench_cases::write_hex` is safe and ends. Assumes nothing.
+-- `printing::write_hex` is safe and ends. Assumes nothing.
 use Prim.Native.Nat.{_-_, _≤_}
 use borrow.Author.Needs.{needs}
-use Rattle.bench_cases.proofs.write_hex.Statement.{statement}
-use Rattle.bench_cases.proofs.write_hex.Tie as tie
+use Rattle.printing.proofs.write_hex.Statement.{statement}
+use Rattle.printing.proofs.write_hex.Tie as tie
 
 abbrev Inv-loop : tie.InvT-loop
 Inv-loop bytes n i₀ i = i ≤ n
