@@ -1,4 +1,4 @@
-// The cursor: where the controller stands in the byte list and in the result area, and where the end of a symbol takes it.
+// Where the end of a symbol takes the cursor, what it notes, and which symbol comes next.
 ghost use mathlib.Core.Path.{_≡_};
 ghost use Prim.Native.Nat.{_+_, _-_, _%_};
 ghost use Rattle.symbols.specs.Ticks.{enter};

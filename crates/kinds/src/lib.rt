@@ -62,6 +62,7 @@ pub fn quota_of(kind: u8, n: u8) -> Quota
     Quota { more: one_less(n) }
 }
 
+// One less, and 0 of 0.
 pub fn one_less(n: u8) -> u8
     ensures { λ r. ⌜ r ≡ n - 1 ⌝ }
 {

@@ -1,4 +1,4 @@
-// The plain reading of an accepted list: byte after byte, message after message, transaction after transaction.
+// An accepted list in the plain reading: where it stands, and how far it has come.
 mod course;
 mod places;
 

@@ -1,4 +1,4 @@
--- What the proofs of several functions use, and what the crates above cite: Stands, Round, Starts, and the laws of one message and of kinds.
+-- What the proofs of several functions use, and what the crates above cite: Stands, Round, Starts, and the laws of one message.
 pub mod OneMessage
 pub mod WholeMessage
 pub mod Cycle
