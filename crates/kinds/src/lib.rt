@@ -1,4 +1,6 @@
 // What a message's kind byte and length byte say, and the limits of a list. Nothing above looks at a kind's number.
+#![tactic(auto)]
+
 ghost use Rattle.std.specs.Prelude.{◌≡◌, ◌-◌, ◌<◌};
 ghost use Rattle.kinds.specs.Kinds.{is_write, is_critical, kind_right, address_right, count_right, length_right, data_of, asked_of, quota_of, follow, remain};
 
@@ -8,7 +10,7 @@ pub const MOST_MESSAGES: u8 = 8;
 pub const MOST_LENGTH: u8 = 64;
 
 // How many bytes a read still asks for after the one under way.
-#[derive(Drop)]
+#[derive(Clone, Copy)]
 pub struct Quota {
     pub more: u8,
 }

@@ -1,9 +1,11 @@
 // What callers lend: bytes read and stored by place, never outside of what is there, and the answer that goes back with it.
+#![tactic(auto)]
+
 ghost use Rattle.std.specs.Prelude.{◌≡◌, get_or, set};
 ghost use Rattle.lent.specs.Areas.{all_within};
 
 // What an entry says: 0 and its ticks, or the number of the refusal and none.
-#[derive(Drop)]
+#[derive(Clone, Copy)]
 pub struct Answer {
     pub number: u8,
     pub ticks: usize,

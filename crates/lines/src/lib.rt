@@ -1,4 +1,6 @@
 // The two wires: their levels in a tick, the byte that stands for them, and what two neighbouring ticks of them say.
+#![tactic(auto)]
+
 ghost use Rattle.std.specs.Prelude.{◌≡◌, ◌-◌};
 ghost use Rattle.lines.specs.Levels.{released, bit_at, shifted, byte_of, lines_of};
 ghost use Rattle.lines.specs.Events.{delivered, note, event_of, eye_after, opened, is_quiet};
@@ -7,28 +9,28 @@ ghost use Rattle.lines.specs.Events.{delivered, note, event_of, eye_after, opene
 pub const MOST_HELD: u8 = 16;
 
 // The levels of the clock and of the data line in one tick.
-#[derive(Drop)]
+#[derive(Clone, Copy)]
 pub struct Lines {
     pub scl: bool,
     pub sda: bool,
 }
 
 // The SDA that was noted when SCL rose. START and STOP take it away: a STOP's own high time would else deliver a false bit.
-#[derive(Drop)]
+#[derive(Clone, Copy)]
 pub enum Noted {
     Nothing,
     Level(bool),
 }
 
 // All that a party has to remember of the ticks before: their last lines and the noted bit.
-#[derive(Drop)]
+#[derive(Clone, Copy)]
 pub struct Eye {
     pub past: Lines,
     pub noted: Noted,
 }
 
 // What is heard in a tick. A bit is heard when SCL falls, never when it rises.
-#[derive(Drop)]
+#[derive(Clone, Copy)]
 pub enum Event {
     Quiet,
     Started,

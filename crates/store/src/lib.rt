@@ -1,14 +1,16 @@
 // What a chip keeps from byte to byte, its memory apart, which is lent: its pointer, its latch, and the model that says how both go round.
+#![tactic(auto)]
+
 mod keeping;
 
 // The parts that there are. What tells one from another stands in specs/Pages.antt.
-#[derive(Drop)]
+#[derive(Clone, Copy)]
 pub enum Model {
     Large,
 }
 
 // What a chip keeps from byte to byte, its memory apart, which is lent.
-#[derive(Drop)]
+#[derive(Clone, Copy)]
 pub struct Store {
     pub name: u8,
     pub model: Model,

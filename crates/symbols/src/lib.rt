@@ -1,15 +1,17 @@
 // The symbols of the bus: the levels that a controller drives for each, its phases, and the faults that it can see in them.
+#![tactic(auto)]
+
 mod faults;
 mod phases;
 
 // A START is the first of its transaction, or a repeated one.
-#[derive(Drop)]
+#[derive(Clone, Copy)]
 pub enum Begin {
     First,
     Repeated,
 }
 
-#[derive(Drop)]
+#[derive(Clone, Copy)]
 pub enum Symbol {
     Start(Begin),
     Stop,
@@ -18,7 +20,7 @@ pub enum Symbol {
 }
 
 // What a line fault is called, or that there is none.
-#[derive(Drop)]
+#[derive(Clone, Copy)]
 pub enum Fault {
     Clear,
     DataLost,
@@ -29,7 +31,7 @@ pub enum Fault {
 }
 
 // A phase is one case with its symbol inside it, so that a received bit can't be met in the middle of a STOP.
-#[derive(Drop)]
+#[derive(Clone, Copy)]
 pub enum Phase {
     // at the end, by a fault or without one
     Over(Fault),

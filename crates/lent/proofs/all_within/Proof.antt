@@ -8,17 +8,17 @@ use Rattle.lent.proofs.Laws.{one_too_large, one_within, none_left}
 use Rattle.lent.proofs.all_within.Statement.{statement}
 use Rattle.lent.proofs.all_within.Tie as tie
 
-abbrev invariant-loop : tie.invariant-loop
-invariant-loop most s i₀ i = all_within most (drop i s) ≡ all_within most s
+abbrev invariant-loop-i : tie.invariant-loop-i
+invariant-loop-i most s i₀ i = all_within most (drop i s) ≡ all_within most s
 
-abbrev decreases-loop : tie.decreases-loop
+abbrev decreases-loop : tie.decreases-loop-i
 decreases-loop most s i₀ i = length s - i
 
 pub all_within_spec : {M : Type 1} → statement M
 all_within_spec =
     tie.close
     (tie.spec
-    invariant-loop
+    invariant-loop-i
     decreases-loop
     (λ c. search rules)
     (λ c. search rules)

@@ -9,17 +9,17 @@ use Rattle.store.proofs.Takes.{none_yet, one_more_lem, all_stored}
 use Rattle.store.proofs.Store.stores.Statement.{statement}
 use Rattle.store.proofs.Store.stores.Tie as tie
 
-abbrev invariant-loop : tie.invariant-loop
-invariant-loop mem₀ latch page start k₀ mem k = (k ≤ page) × (length latch ≡ 32) × (length mem ≡ length mem₀) × (mem ≡ stored k start latch mem₀)
+abbrev invariant-loop-k : tie.invariant-loop-k
+invariant-loop-k mem₀ latch page start k₀ mem k = (k ≤ page) × (length latch ≡ 32) × (length mem ≡ length mem₀) × (mem ≡ stored k start latch mem₀)
 
-abbrev decreases-loop : tie.decreases-loop
-decreases-loop mem₀ latch page start k₀ mem k = page - k
+abbrev decreases-loop-k : tie.decreases-loop-k
+decreases-loop-k mem₀ latch page start k₀ mem k = page - k
 
 pub stores_spec : {M : Type 1} → statement M
 stores_spec =
     tie.close (tie.spec
-    invariant-loop
-    decreases-loop
+    invariant-loop-k
+    decreases-loop-k
     (λ c κs. search rules)
     (λ c. search rules)
     (λ c κs. search rules)
@@ -37,8 +37,8 @@ stores_spec =
       search rules,
       search rules,
       search rules,
-      one_more_lem _ _ _ _ _ _ _ c5.loop.invariant.3 c.before.before.store-one.ensures
-          c4.loop-test.true c7.page.ensures.most c5.loop.invariant.1,
+      one_more_lem _ _ _ _ _ _ _ c5.loop-k.invariant.3 c.before.before.store_one.ensures
+          c4.loop-k-test.true c7.page-page.ensures.most c5.loop-k.invariant.1,
     ))
     (λ c. search rules)
     (λ c. search all_stored))
