@@ -24,7 +24,7 @@ use Rattle.orders.proofs.WholeMessage.{message_inv}
 use Rattle.orders.proofs.Stands.{holds}
 use Rattle.symbols.specs.Symbols.{drives, is_over}
 use Rattle.symbols.specs.Faults.{is_first, is_taken, is_stuck, fault_of, is_clear}
-use Rattle.symbols.specs.Ticks.{first, enter, Control, move, control_tick}
+use Rattle.symbols.specs.Ticks.{enter, Control, move, control_tick}
 use Rattle.symbols.specs.declared.Symbol.{Symbol}
 use Rattle.symbols.specs.declared.Fault.{Fault}
 use Rattle.symbols.specs.declared.Fault.TheVariants.{Clear}

@@ -1,4 +1,6 @@
 // The controller: its way through an order list, and the tick in which it drives a symbol, sees the lines and notes a result.
+#![tactic(auto)]
+
 ghost use Rattle.std.specs.Prelude.{◌≡◌, ◌≤◌, length};
 ghost use Rattle.symbols.specs.Symbols.{drives, is_over};
 ghost use Rattle.symbols.specs.Ticks.{control_tick};
@@ -12,7 +14,7 @@ use lines::Lines;
 use orders::Checked;
 use symbols::{Fault, Phase};
 
-#[derive(Drop)]
+#[derive(Clone, Copy)]
 pub struct Controller {
     pub phase: Phase,
     // the SDA driven in the last phase 3
@@ -21,7 +23,7 @@ pub struct Controller {
 }
 
 // How a run on a record ended.
-#[derive(Drop)]
+#[derive(Clone, Copy)]
 pub enum End {
     Refused,
     ListEnd,
@@ -29,7 +31,7 @@ pub enum End {
     RecordEnd,
 }
 
-#[derive(Drop)]
+#[derive(Clone, Copy)]
 pub struct Told {
     pub number: u8,
     pub end: End,

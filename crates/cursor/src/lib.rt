@@ -1,10 +1,12 @@
 // The cursor: where the controller stands in the byte list and in the result area, and what each symbol there is for.
+#![tactic(auto)]
+
 mod places;
 
 use kinds::Quota;
 
 // What the symbol under way is for.
-#[derive(Drop)]
+#[derive(Clone, Copy)]
 pub enum Act {
     // the first START, after a wait
     Opens(u32),
@@ -26,7 +28,7 @@ pub enum Act {
 }
 
 // Where the controller stands in the list and in the result area.
-#[derive(Drop)]
+#[derive(Clone, Copy)]
 pub struct Cursor {
     pub act: Act,
     // the message's first byte

@@ -10,6 +10,7 @@ use store::{Model, Store};
 
 impl Stage {
     // What is driven on SDA.
+    #[tactic(auto, unfolding(crate::specs::Stages::sda_of))]
     fn sda(self) -> bool
         ensures { result ≡ sda_of self }
     {

@@ -1,4 +1,6 @@
 // The EEPROM on the wires: what it makes of an event and what it drives (hearing), and the bytes of its state (states). What it keeps is a store's.
+#![tactic(auto)]
+
 mod hearing;
 mod states;
 
@@ -9,7 +11,7 @@ use store::Store;
 pub const MOST_BUSY: u16 = 20000;
 
 // Where a chip stands in a byte. Bits are counted down: so many come after the next.
-#[derive(Drop)]
+#[derive(Clone, Copy)]
 pub enum Stage {
     // silent until START
     Deaf,
@@ -27,7 +29,7 @@ pub enum Stage {
 }
 
 // A chip but for its memory, which is lent, and its busy time.
-#[derive(Drop)]
+#[derive(Clone, Copy)]
 pub struct Chip {
     pub stage: Stage,
     pub store: Store,

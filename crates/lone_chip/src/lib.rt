@@ -1,4 +1,6 @@
 // The entry "one chip alone": a chip with its eye and its busy time on a record of samples, and the refusals.
+#![tactic(auto)]
+
 ghost use Rattle.std.specs.Prelude.{◌≡◌, List, ℕ};
 ghost use Rattle.lent.specs.Areas.{over};
 ghost use Rattle.lines.specs.Levels.{hi, ◌∥◌};
@@ -13,7 +15,7 @@ use lines::{Eye, Lines};
 use store::Model;
 
 // A chip alone with the lines: what it saw last, and its busy ticks left.
-#[derive(Drop)]
+#[derive(Clone, Copy)]
 pub struct Watch {
     pub eye: Eye,
     pub chip: Chip,

@@ -84,16 +84,16 @@ pub stands_parse : {s : List ℕ} {p : ℕ} {ms : List Message} {ts : List Trans
 unfolding parse
 stands_parse st zero h = absurd (omega arith)
 stands_parse (ended l) (suc n) h = simp tests
-stands_parse {s} {p} (begins l c k i st) (suc n) h =
+stands_parse {s = s} {p = p} (begins {q = q} l c k i st) (suc n) h =
     let b : p < length s = omega arith in
     let is = message_inv s (p + 3) _ _ i in
     let next = is.next in
-    simp (tests, c, i, k, stands_parse st n (omega arith))
-stands_parse {s} {p} (follows i st) (suc n) h =
+    simp (tests, c, i, k, stands_parse {p = q} st n (omega arith))
+stands_parse {s = s} {p = p} (follows {q = q} i st) (suc n) h =
     let is = message_inv s p _ _ i in
     let next = is.next in
     let room = is.room in
-    simp (i, stands_parse st n (omega arith))
+    simp (i, stands_parse {p = q} st n (omega arith))
 
 -- a list that is read from its start
 pub parsed_stands : (s : List ℕ) (ms : List Message) (ts : List Transaction) → parsed s ≡ right ms ts → IsRead s 0 0 ms ts

@@ -1,5 +1,5 @@
 -- How the result area is started in place: zeros, and then an outcome of 255 at each transaction's place, found by going along the list. For an
--- accepted list and its own size that is `startArea`. Assumes nothing.
+-- accepted list and its own size that is `start_area`. Assumes nothing.
 use Rattle.std.specs.Prelude.{ℕ, zero, suc, ◌+◌, cond, List, ◌++◌, ltb, length, get_or, set, drop, replicate}
 use Rattle.kinds.specs.Kinds.{most_bytes}
 use Rattle.orders.specs.Places.{size_at, room_at}

@@ -1,4 +1,6 @@
 // The order list: which form it has, how large its result area is, and what stands at a place of it.
+#![tactic(auto)]
+
 ghost use Rattle.std.specs.Prelude.{◌≡◌, suc, ◌+◌, ◌-◌, ◌*◌, ◌<◌, ◌≤◌, length};
 ghost use Rattle.kinds.specs.Kinds.{most_bytes};
 ghost use Rattle.orders.specs.Form.{breaks, message_at};
@@ -14,7 +16,7 @@ use lent::{byte_at, put_at};
 pub const MOST_BYTES: usize = 4096;
 
 // Which rule of the form a list breaks.
-#[derive(Drop)]
+#[derive(Clone, Copy)]
 pub enum Rule {
     CutShort,
     Count,
@@ -24,14 +26,14 @@ pub enum Rule {
 }
 
 // The first byte that breaks the form, and the rule that it breaks. A list that is cut short breaks it at its end.
-#[derive(Drop)]
+#[derive(Clone, Copy)]
 pub struct Break {
     pub place: usize,
     pub rule: Rule,
 }
 
 // What the check of a list says: accepted with the size of the result area, or turned down.
-#[derive(Drop)]
+#[derive(Clone, Copy)]
 pub enum Checked {
     Accepted(usize),
     TooLong,
@@ -63,7 +65,7 @@ impl Checked {
 }
 
 // What stands where a message is due: a whole one, with the place after it and its slots in the result area, or a break.
-#[derive(Drop)]
+#[derive(Clone, Copy)]
 enum Found {
     Whole { next: usize, slots: usize },
     Broken(Break),

@@ -8,20 +8,20 @@ use Rattle.orders.proofs.StartTurns.{zero_turn, zero_ends}
 use Rattle.orders.proofs.clear.Statement.{statement}
 use Rattle.orders.proofs.clear.Tie as tie
 
-abbrev invariant-loop : tie.invariant-loop
-invariant-loop area₀ size i₀ area i = (i ≤ size) × (length area ≡ length area₀) × (area ≡ zeroed i area₀)
+abbrev invariant-loop-i : tie.invariant-loop-i
+invariant-loop-i area₀ size i₀ area i = (i ≤ size) × (length area ≡ length area₀) × (area ≡ zeroed i area₀)
 
-abbrev decreases-loop : tie.decreases-loop
-decreases-loop area₀ size i₀ area i = size - i
+abbrev decreases-loop-i : tie.decreases-loop-i
+decreases-loop-i area₀ size i₀ area i = size - i
 
-loop_again : tie.Need-loop-preserved invariant-loop decreases-loop
+loop_again : tie.Need-loop-i-preserved invariant-loop-i decreases-loop-i
 loop_again c = (search rules, search rules, search zero_turn)
 
-returns : tie.Need-returns invariant-loop decreases-loop
+returns : tie.Need-returns invariant-loop-i decreases-loop-i
 returns c = search zero_ends
 
 pub clear_spec : {M : Type 1} → statement M
 clear_spec =
     tie.close
-    (tie.spec invariant-loop decreases-loop
+    (tie.spec invariant-loop-i decreases-loop-i
     (λ c. search rules) (λ c. search rules) (λ c. search rules) (λ c. search rules) loop_again (λ c. search rules) returns)

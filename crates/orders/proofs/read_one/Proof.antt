@@ -18,5 +18,5 @@ read_one_spec =
     let l = c.before.before.before.before in
     let k = l.before.before.before.before in
     let a = k.before.before.before.before in
-    whole_message _ _ (search rules) _ a.is_Address.ensures (search rules) (search rules) _ k.is-kind.ensures (search rules) (search rules)
-    _ l.is-length.ensures (search rules) _ (search rules) _ (search rules) (search rules)))
+    whole_message _ _ (search rules) _ a.is_address.ensures (search rules) (search rules) _ k.is_kind.ensures (search rules) (search rules)
+    _ l.is_length.ensures (search rules) _ (search rules) _ (search rules) (search rules)))

@@ -10,11 +10,11 @@ tick_spec =
     tie.close (tie.spec
     (λ c κs. search rules) (λ c κs. search rules) (λ c κs. search rules) (λ c κs. search rules) (λ c κs. search rules)
     (λ c κs. search rules) (λ c κs. search rules) (λ c. search rules)
-    (λ c. search ticks_last) (λ c κs. search rules-clear) (λ c. search ticks_inside) (λ c. search rules) (λ c κs. search rules)
+    (λ c. search ticks_last) (λ c κs. search needs_clear) (λ c. search ticks_inside) (λ c. search rules) (λ c κs. search rules)
     (λ c κs. search rules) (λ c κs. search rules) (λ c. search rules)
     (λ c. let c3 = c.before.before.before in
     let c4 = c3.before in
     let c7 = c4.before.before.before in
     let c8 = c7.before in
     let c9 = c8.before in
-    ticks_over _ _ _ _ _ _ c9.fault.ensures c8.is-clear.ensures _ _ _ c7.if1.false c4.outcome.ensures c3.put-at.ensures c.nowhere.ensures))
+    ticks_over _ _ _ _ _ _ c9.fault-fault.ensures c8.is_clear.ensures _ _ _ c7.if-is_clear.false c4.outcome.ensures c3.put_at.ensures c.nowhere.ensures))

@@ -6,18 +6,18 @@ use Rattle.cursor.proofs.Walk.{pass_turn, pass_end}
 use Rattle.cursor.proofs.Cursor.passed_all.Statement.{statement}
 use Rattle.cursor.proofs.Cursor.passed_all.Tie as tie
 
-abbrev invariant-loop : tie.invariant-loop
-invariant-loop list c₀ n₀ c n = passed_all list n c ≡ passed_all list n₀ c₀
+abbrev invariant-loop-n : tie.invariant-loop-n
+invariant-loop-n list c₀ n₀ c n = passed_all list n c ≡ passed_all list n₀ c₀
 
-abbrev decreases-loop : tie.decreases-loop
-decreases-loop list c₀ n₀ c n = n
+abbrev decreases-loop-n : tie.decreases-loop-n
+decreases-loop-n list c₀ n₀ c n = n
 
 pub passed_all_spec : {M : Type 1} → statement M
 passed_all_spec =
     tie.close
     (tie.spec
-    invariant-loop
-    decreases-loop
+    invariant-loop-n
+    decreases-loop-n
     (λ c. search rules)
     (λ c. search rules)
     (λ c. search rules)

@@ -8,4 +8,4 @@ pub at_rest_spec : {M : Type 1} → statement M
 at_rest_spec =
     tie.close (tie.spec
     (λ c κs. search rules)
-    (λ c. rests_deaf _ _ _ _ c.at_rest.ensures))
+    (λ c. rests_deaf _ _ _ _ c.at_rest-store.ensures))

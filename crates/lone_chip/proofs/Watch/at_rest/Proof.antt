@@ -9,4 +9,4 @@ at_rest_spec =
     tie.close (tie.spec
     (λ c κs. search rules)
     (λ c κs. search rules)
-    (λ c. rests _ _ _ _ _ _ c.opened.ensures c.before.at_rest.ensures))
+    (λ c. rests _ _ _ _ _ _ c.opened-eye.ensures c.before.at_rest-chip.ensures))

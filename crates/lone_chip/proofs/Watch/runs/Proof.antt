@@ -10,19 +10,19 @@ use Rattle.lone_chip.proofs.Entry.{turn}
 use Rattle.lone_chip.proofs.Watch.runs.Statement.{statement}
 use Rattle.lone_chip.proofs.Watch.runs.Tie as tie
 
-abbrev invariant-loop : tie.invariant-loop
-invariant-loop asked memory₀ samples drives₀ watch₀ i₀ memory drives watch
+abbrev invariant-loop-i : tie.invariant-loop-i
+invariant-loop-i asked memory₀ samples drives₀ watch₀ i₀ memory drives watch
     i = (i ≤ length samples) × (length memory ≡ length memory₀) × (length drives ≡ length drives₀) × (leaves (chip asked) i samples
     (watch_of watch memory) drives ≡ leaves (chip asked) 0 samples (watch_of watch₀ memory₀) drives₀)
 
-abbrev decreases-loop : tie.decreases-loop
-decreases-loop asked memory₀ samples drives₀ watch₀ i₀ memory drives watch i = length samples - i
+abbrev decreases-loop-i : tie.decreases-loop-i
+decreases-loop-i asked memory₀ samples drives₀ watch₀ i₀ memory drives watch i = length samples - i
 
 pub runs_spec : {M : Type 1} → statement M
 runs_spec =
     tie.close (tie.spec
-    invariant-loop
-    decreases-loop
+    invariant-loop-i
+    decreases-loop-i
     (λ c. search rules)
     (λ c κs. search rules)
     (λ c κs. search rules)
@@ -32,9 +32,9 @@ runs_spec =
     (λ c κs. search rules)
     (λ c. let c12 = c.before.before.before.before.before.before.before.before.before.before.before.before in
     let c17 = c12.before.before.before.before.before in
-    let l = c12.loop-test.true in let g = c17.well-formed in search rules)
+    let l = c12.loop-i-test.true in let g = c17.well_formed in search rules)
     (λ c. search rules)
     (λ c. (search rules, search rules, search rules, search turn))
     (λ c. search rules)
     (λ c. search rules)
-    (λ c. (walked (chip _) _ _ _ _ _ _ c.before.loop.invariant.3 c.loop-test.false, drove (chip _) _ _ _ _ _ _ c.before.loop.invariant.3 c.loop-test.false)))
+    (λ c. (walked (chip _) _ _ _ _ _ _ c.before.loop-i.invariant.3 c.loop-i-test.false, drove (chip _) _ _ _ _ _ _ c.before.loop-i.invariant.3 c.loop-i-test.false)))
