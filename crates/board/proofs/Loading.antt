@@ -7,7 +7,7 @@ use mathlib.Core.Path.{◌≡◌, refl, ap, ap₂, sym, ◌∙◌}
 use mathlib.Core.Bool.{Bool, true, false, cond}
 use mathlib.Core.List.{List, [], ◌∷◌, ◌++◌, append_assoc, map}
 use lib.Count.{ones}
-use lib.ListN.{length, get_or, set, take, drop, length-set}
+use lib.ListN.{length, set, take, drop}
 use lib.Seq.{take-suc-set, drop-drop, length-take-le}
 use Rattle.lines.specs.Levels.{digit, bit_at}
 use Rattle.store.specs.Pages.{geometry_of}

@@ -1,7 +1,6 @@
 -- Counts of ones in a byte of marks: how many chips there are, and a chip's place among them. Assumes nothing.
 use Prim.Native.Nat.{ℕ, zero, suc, ◌+◌, ◌*◌, ◌/◌, ◌%◌, ◌^◌, ◌≤◌, ◌<◌}
-use mathlib.Core.Path.{◌≡◌, refl, ap, sym, ◌∙◌}
-use mathlib.Core.Bool.{Bool, true, false}
+use mathlib.Core.Path.{◌≡◌, refl, ap, ◌∙◌}
 use native.Mathlib.Omega.{arith}
 use native.Mathlib.Nat.{mod-lt, mod-eq_of_lt, pow-suc, lt_of_le_of_lt, one-mul, mul_comm}
 use lib.Arith.{mod-mul}

@@ -4,7 +4,7 @@ use native.Mathlib.Nat.{le_trans, mul-le-mul}
 use native.Mathlib.Numerals.{add-one}
 use native.Mathlib.Omega.{arith}
 use mathlib.Core.Path.{◌≡◌, refl, ap, ap₂, sym, ◌∙◌}
-use mathlib.Core.Bool.{Bool, true, false, not, ◌&&◌, cond}
+use mathlib.Core.Bool.{Bool, true, false, not, ◌&&◌}
 use mathlib.Core.List.{List}
 use borrow.Author.Tests.{eq-eqb, ne_eqb, eqb-true, lt-ltb, le-ltb}
 use lib.Count.{ones}
@@ -15,9 +15,8 @@ use Rattle.lent.specs.Areas.{all_within}
 use Rattle.lines.specs.Levels.{bit_at, most_held}
 use Rattle.store.specs.Pages.{geometry_of}
 use Rattle.store.specs.declared.Model.TheVariants.{Large}
-use Rattle.eeprom.specs.Stages.{Body}
 use Rattle.eeprom.specs.States.{most_busy, word_at}
-use Rattle.board.specs.Marks.{place_of, memory_at, body_at, bodies_from, bodies}
+use Rattle.board.specs.Marks.{place_of, memory_at, bodies_from, bodies}
 use Rattle.board.specs.Desk.{states_right, board_number}
 use Rattle.board.proofs.Places.{all_places}
 

@@ -1,6 +1,6 @@
 -- The states handed back: chip after chip, four bytes each, and they are the rules' state row. Assumes nothing.
 use Prim.Native.Nat.{ℕ, zero, suc, ◌+◌, ◌-◌, ◌*◌, ◌/◌, ◌%◌, ◌≤◌, ◌<◌}
-use native.Mathlib.Nat.{suc-le-suc_iff, sub-zero}
+use native.Mathlib.Nat.{sub-zero}
 use native.Mathlib.Numerals.{add-one}
 use native.Mathlib.Omega.{arith}
 use mathlib.Core.Path.{◌≡◌, refl, ap, ap₂, sym, ◌∙◌}
@@ -11,7 +11,7 @@ use Rattle.lent.specs.Areas.{over}
 use Rattle.lent.proofs.Rows.{over_whole}
 use Rattle.eeprom.specs.States.{word_bytes}
 use Rattle.board.specs.Marks.{state_row}
-use Rattle.board.specs.Seats.{Seated, size_of, seated, body_of, seat_bytes, seat_row}
+use Rattle.board.specs.Seats.{size_of, seated, body_of, seat_bytes, seat_row}
 use Rattle.board.specs.declared.Seat.{Seat}
 
 -- two bytes keep a number's own two low bytes

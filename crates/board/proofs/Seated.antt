@@ -3,10 +3,10 @@
 use Prim.Native.Nat.{ℕ, zero, suc, ◌+◌, ◌-◌, ◌≤◌, ◌<◌}
 use native.Mathlib.Nat.{suc-le-suc_iff, le_refl}
 use native.Mathlib.Omega.{arith}
-use mathlib.Core.Path.{◌≡◌, refl, ap, ap₂, sym, ◌∙◌}
+use mathlib.Core.Path.{◌≡◌, refl, ap, sym, ◌∙◌}
 use mathlib.Core.List.{List, [], ◌∷◌, ◌++◌, append_assoc, map}
-use lib.ListN.{length, get_or, set, take, drop, length-drop, take-append-drop}
-use lib.Seq.{drop-drop, take-add, take_at, drop_at, length-take-le, take_all, take-nil}
+use lib.ListN.{length, get_or, set, take, drop, length-drop}
+use lib.Seq.{drop-drop, take-add, take_at, drop_at, length-take-le, take_all}
 use Rattle.board.specs.Marks.{memories}
 use Rattle.board.specs.Seats.{Seated, parted, size_of, seated, offset, body_of}
 use Rattle.board.specs.declared.Seat.{Seat}

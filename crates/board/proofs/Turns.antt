@@ -4,7 +4,7 @@ use native.Mathlib.Numerals.{add-one}
 use native.Mathlib.Omega.{arith}
 use mathlib.Core.Path.{◌≡◌, refl, ap, ap₂, sym, ◌∙◌}
 use mathlib.Core.Bool.{Bool, true, false, ◌&&◌}
-use mathlib.Core.List.{List, [], ◌∷◌, ◌++◌, map}
+use mathlib.Core.List.{List, [], ◌++◌, map}
 use lib.ListN.{length, get_or, set, take, drop, length-append, length-drop, length-set}
 use lib.Seq.{length-take-le, take_all, take-suc, take-suc-set, set-get_or}
 use Rattle.lines.specs.declared.Event.{Event}

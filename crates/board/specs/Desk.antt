@@ -1,5 +1,5 @@
 -- When the whole-bus run and the plain reading say no, and what both hand back (paper 01, "When the desk says no"). Assumes nothing.
-use Rattle.std.specs.Prelude.{ℕ, ◌*◌, Bool, true, not, ◌&&◌, cond, List, [], ◌∷◌, eqb, ltb, length}
+use Rattle.std.specs.Prelude.{ℕ, ◌*◌, Bool, true, not, ◌&&◌, List, [], ◌∷◌, eqb, ltb, length}
 use Rattle.lent.specs.Refusals.{no, ◌then◌}
 use Rattle.lent.specs.Areas.{all_within}
 use Rattle.lent.specs.declared.Answer.{Answer}

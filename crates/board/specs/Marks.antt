@@ -1,5 +1,5 @@
 -- The EEPROMs named by a byte of marks, over the lent memory and states (paper 01, "What is on the board"). Assumes nothing.
-use Rattle.std.specs.Prelude.{ℕ, zero, suc, ◌*◌, ◌%◌, ◌^◌, Bool, cond, List, [], ◌∷◌, ◌++◌, take, drop}
+use Rattle.std.specs.Prelude.{ℕ, zero, suc, ◌*◌, ◌%◌, ◌^◌, cond, List, [], ◌∷◌, ◌++◌, take, drop}
 use Rattle.std.specs.Int.Count.{ones}
 use Rattle.lines.specs.Levels.{bit_at}
 use Rattle.store.specs.Pages.{geometry_of}

@@ -1,4 +1,6 @@
 // The board: which chips the marks name, where each one's memory and state stand in what is lent, and what the desk turns down of it.
+#![tactic(auto)]
+
 ghost use Rattle.std.specs.Prelude.{◌≡◌, ℕ, ◌+◌, ◌-◌, ◌*◌, ◌≤◌, ◌<◌, List, [], length, take};
 ghost use Rattle.lent.specs.Areas.{over};
 ghost use Rattle.eeprom.specs.Stages.{sda_of};
@@ -12,7 +14,7 @@ use lines::{Event, MOST_HELD, bit_at};
 use store::{Model, Store};
 
 // A chip in a run, with the tick from which it is no longer busy.
-#[derive(Drop)]
+#[derive(Clone, Copy)]
 pub struct Seat {
     pub chip: Chip,
     pub free: usize,

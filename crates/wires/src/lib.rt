@@ -1,5 +1,7 @@
 // The two wires with all that hangs on them: one controller, the chips, one clock holder. An event is found once a tick, and the chips are touched only
 // where there is one.
+#![tactic(auto)]
+
 ghost use Rattle.std.specs.Prelude.{◌≡◌, ◌+◌, ◌-◌, ◌<◌, ◌≤◌, length};
 ghost use Rattle.lines.specs.Events.{event_of};
 ghost use Rattle.symbols.specs.Symbols.{is_over};
@@ -18,7 +20,7 @@ use symbols::{Begin, Phase, Symbol};
 const LIMIT: usize = 1099511627776;
 
 // The clock holder: the ticks for which it still drives SCL low, and the next place in the hold list.
-#[derive(Drop)]
+#[derive(Clone, Copy)]
 pub struct Holder {
     pub left: u16,
     pub next: usize,
@@ -66,7 +68,7 @@ impl Holder {
 }
 
 // All parties but the chips; `up` is the SDA that the chips leave.
-#[derive(Drop)]
+#[derive(Clone, Copy)]
 pub struct Bus {
     pub control: Controller,
     pub hold: Holder,
@@ -196,7 +198,7 @@ fn fill(trace: &mut [u8], from: usize, count: usize)
 }
 
 // The run's end, its ticks, and the chips.
-#[derive(Drop)]
+#[derive(Clone, Copy)]
 pub struct Ran {
     pub bus: Bus,
     pub ticks: usize,

@@ -1,7 +1,6 @@
 -- `board::chip_count` meets its contract. Assumes nothing.
 use borrow.Author.Rules.{rules}
 use mathlib.Core.Path.{refl}
-use native.Mathlib.Omega.{arith}
 use Rattle.board.proofs.Places.{few}
 use Rattle.board.proofs.chip_count.Statement.{statement}
 use Rattle.board.proofs.chip_count.Tie as tie

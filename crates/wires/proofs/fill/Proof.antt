@@ -8,19 +8,19 @@ use Rattle.wires.proofs.Holds.{fill_turn, fill_end}
 use Rattle.wires.proofs.fill.Statement.{statement}
 use Rattle.wires.proofs.fill.Tie as tie
 
-abbrev invariant-loop : tie.invariant-loop
-invariant-loop trace₀ from count n₀ i₀ trace n i =
+abbrev invariant-loop-n : tie.invariant-loop-n
+invariant-loop-n trace₀ from count n₀ i₀ trace n i =
     (n ≤ count) × (i + n ≡ from + count) × (length trace ≡ length trace₀) × (filled n i trace ≡ filled count from trace₀)
 
-abbrev decreases-loop : tie.decreases-loop
-decreases-loop trace₀ from count n₀ i₀ trace n i = n
+abbrev decreases-loop-n : tie.decreases-loop-n
+decreases-loop-n trace₀ from count n₀ i₀ trace n i = n
 
 pub fill_spec : {M : Type 1} → statement M
 fill_spec =
     tie.close
     (tie.spec
-    invariant-loop
-    decreases-loop
+    invariant-loop-n
+    decreases-loop-n
     (λ c. search rules)
     (λ c κs. search rules)
     (λ c. search rules)

@@ -1,9 +1,5 @@
 -- `board::Seat::put` meets its contract. Assumes nothing.
-use mathlib.Core.Path.{ap, refl, ◌∙◌}
-use mathlib.Core.List.{List}
-use Prim.Native.Nat.{ℕ, ◌%◌}
 use borrow.Author.Rules.{rules}
-use Rattle.lent.specs.Areas.{over}
 use Rattle.board.proofs.Saving.{put_so}
 use Rattle.board.proofs.Seat.put.Statement.{statement}
 use Rattle.board.proofs.Seat.put.Tie as tie

@@ -12,9 +12,9 @@ symbol_spec =
     (tie.spec
     (λ c. search rules)
     (λ c. search rules)
-    (λ c. Fits-8_64 (c.shared-slice-known.given _))
-    (λ c. omega (arith, c.shared-slice-known.given c.before.before.before.args.self.next))
+    (λ c. Fits-8_64 (c.shared_slice_known-1.given _))
+    (λ c. omega (arith, c.shared_slice_known-1.given c.before.before.before.args.self.next))
     (λ c. search rules)
     (λ c. search rules)
-    (λ c. symbol_held _ _ (c.shared-slice-known.given _).fits c.before.before.if1.true)
+    (λ c. symbol_held _ _ (c.shared_slice_known-1.given _).fits c.before.before.if-next-holds.true)
     (λ c. search symbol_free))

@@ -8,18 +8,18 @@ use Rattle.plain.proofs.Ticking.{none_gone, symbol_more, symbols_gone}
 use Rattle.plain.proofs.Time.symbols.Statement.{statement}
 use Rattle.plain.proofs.Time.symbols.Tie as tie
 
-abbrev invariant-loop : tie.invariant-loop
-invariant-loop n holds time₀ i₀ time i = (i ≤ n) × (time.now ≤ time₀.now + symbol_most * i) × (symbols (n - i) (time_of time holds) ≡ symbols n (time_of time₀ holds))
+abbrev invariant-loop-i : tie.invariant-loop-i
+invariant-loop-i n holds time₀ i₀ time i = (i ≤ n) × (time.now ≤ time₀.now + symbol_most * i) × (symbols (n - i) (time_of time holds) ≡ symbols n (time_of time₀ holds))
 
-abbrev decreases-loop : tie.decreases-loop
-decreases-loop n holds time₀ i₀ time i = n - i
+abbrev decreases-loop-i : tie.decreases-loop-i
+decreases-loop-i n holds time₀ i₀ time i = n - i
 
 pub symbols_spec : {M : Type 1} → statement M
 symbols_spec =
     tie.close
     (tie.spec
-    invariant-loop
-    decreases-loop
+    invariant-loop-i
+    decreases-loop-i
     (λ c. (search rules, search rules, none_gone _ _))
     (λ c κs. search rules)
     (λ c. search rules)

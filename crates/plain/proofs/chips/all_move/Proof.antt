@@ -10,18 +10,18 @@ use Rattle.plain.proofs.Cells.{none_done, all_moved, all_fit}
 use Rattle.plain.proofs.chips.all_move.Statement.{statement}
 use Rattle.plain.proofs.chips.all_move.Tie as tie
 
-abbrev invariant-loop : tie.invariant-loop
-invariant-loop n address tick deed seats₀ i₀ seats i = (i ≤ n) × (length seats ≡ 8) × (length seats₀ ≡ 8) × (seats ≡ done (seat_moves deed address tick) i seats₀)
+abbrev invariant-loop-i : tie.invariant-loop-i
+invariant-loop-i n address tick deed seats₀ i₀ seats i = (i ≤ n) × (length seats ≡ 8) × (length seats₀ ≡ 8) × (seats ≡ done (seat_moves deed address tick) i seats₀)
 
-abbrev decreases-loop : tie.decreases-loop
-decreases-loop n address tick deed seats₀ i₀ seats i = n - i
+abbrev decreases-loop-i : tie.decreases-loop-i
+decreases-loop-i n address tick deed seats₀ i₀ seats i = n - i
 
 pub all_move_spec : {M : Type 1} → statement M
 all_move_spec =
     tie.close
     (tie.spec
-    invariant-loop
-    decreases-loop
+    invariant-loop-i
+    decreases-loop-i
     (λ c. (search rules, search rules, search rules, none_done _ _ _ _))
     (λ c. search rules)
     (λ c. search rules)
@@ -36,10 +36,10 @@ all_move_spec =
       search rules,
       search rules,
       done_step (seat_moves c4.args.deed c4.args.address c4.args.tick) _ _ _ _ _
-          c3.loop.invariant.3 c.moved.ensures (search rules),
+          c3.loop-i.invariant.3 c.moved.ensures (search rules),
     ))
     (λ c. (
-      all_moved _ _ _ _ _ _ _ c.before.loop.invariant.3 c.before.loop.invariant.0 c.loop-test.false,
+      all_moved _ _ _ _ _ _ _ c.before.loop-i.invariant.3 c.before.loop-i.invariant.0 c.loop-i-test.false,
       all_fit _ _ _ _ _ _ _
-          c.before.loop.invariant.3 c.before.loop.invariant.0 c.loop-test.false,
+          c.before.loop-i.invariant.3 c.before.loop-i.invariant.0 c.loop-i-test.false,
     )))

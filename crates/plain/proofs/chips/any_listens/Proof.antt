@@ -11,27 +11,27 @@ use Rattle.plain.proofs.Cells.{one_listens, not_this_one, none_listens}
 use Rattle.plain.proofs.chips.any_listens.Statement.{statement}
 use Rattle.plain.proofs.chips.any_listens.Tie as tie
 
-abbrev invariant-loop : tie.invariant-loop
-invariant-loop n address tick seats i₀ i = (i ≤ n) × ((m : List ℕ) → any_of (listens address tick) (drop i (cells_of n seats m)) ≡ any_of (listens address tick) (cells_of n seats m))
+abbrev invariant-loop-i : tie.invariant-loop-i
+invariant-loop-i n address tick seats i₀ i = (i ≤ n) × ((m : List ℕ) → any_of (listens address tick) (drop i (cells_of n seats m)) ≡ any_of (listens address tick) (cells_of n seats m))
 
-abbrev decreases-loop : tie.decreases-loop
-decreases-loop n address tick seats i₀ i = n - i
+abbrev decreases-loop-i : tie.decreases-loop-i
+decreases-loop-i n address tick seats i₀ i = n - i
 
 pub any_listens_spec : {M : Type 1} → statement M
 any_listens_spec =
     tie.close
     (tie.spec
-    invariant-loop
-    decreases-loop
+    invariant-loop-i
+    decreases-loop-i
     (λ c. (search rules, λ m. refl))
     (λ c. search rules)
     (λ c. search rules)
     (λ c κs. search rules)
-    (λ c. one_listens _ _ _ (search rules) _ _ _ _ c.before.listens.ensures c.before.before.before.loop-test.true
-    c.before.before.before.before.loop.invariant.1 c.if1.true)
+    (λ c. one_listens _ _ _ (search rules) _ _ _ _ c.before.listens.ensures c.before.before.before.loop-i-test.true
+    c.before.before.before.before.loop-i.invariant.1 c.if-listens.true)
     (λ c. search rules)
     (λ c. search rules)
     (λ c. let c3 = c.before.before.before in
     let c4 = c3.before in
-    (search rules, not_this_one _ _ _ (search rules) _ _ _ _ c.before.listens.ensures c3.loop-test.true c4.loop.invariant.1 c.if1.false))
-    (λ c. none_listens _ _ _ (search rules) _ _ c.loop-test.false c.before.loop.invariant.1))
+    (search rules, not_this_one _ _ _ (search rules) _ _ _ _ c.before.listens.ensures c3.loop-i-test.true c4.loop-i.invariant.1 c.if-listens.false))
+    (λ c. none_listens _ _ _ (search rules) _ _ c.loop-i-test.false c.before.loop-i.invariant.1))

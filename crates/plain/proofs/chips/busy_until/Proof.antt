@@ -8,5 +8,5 @@ busy_until_spec =
     tie.close
     (tie.spec
     (λ c. search rules)
-    (λ c. rw c.if1.true)
+    (λ c. rw c.if-due.true)
     (λ c. search rules))

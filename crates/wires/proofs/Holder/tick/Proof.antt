@@ -11,8 +11,8 @@ tick_spec =
     (tie.spec
     (λ c κs. search rules)
     (λ c. search rules)
-    (λ c. Fits-8_16 (c.shared-slice-known2.given _))
-    (λ c. let h = c.shared-slice-known2.given c.before.before.before.before.before.args.self.next in search rules)
+    (λ c. Fits-8_16 (c.shared_slice_known-then-next-holds-1.given _))
+    (λ c. let h = c.shared_slice_known-then-next-holds-1.given c.before.before.before.before.before.args.self.next in search rules)
     (λ c. search rules)
     (λ c κs. search rules)
     (λ c κs. search rules)
