@@ -3,7 +3,6 @@ use Rattle.std.specs.Prelude.{ℕ, ◌≤◌, ◌≡◌, List, length}
 use Rattle.orders.specs.Results.{check_of}
 use Rattle.orders.specs.declared.Checked.TheVariants.{Accepted}
 use Rattle.board.specs.Desk.{board_number}
-use Rattle.wires.specs.Wires as Wires
 
 -- an input that no number refuses
 pub record Fine (list : List ℕ) (size marks : ℕ) (memory states holds : List ℕ) (asked : ℕ) (results : List ℕ) : Type 0 where

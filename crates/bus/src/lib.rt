@@ -1,4 +1,6 @@
 // The entry "whole-bus run": what is wrong is turned down, and the rest goes over the wires.
+#![tactic(auto)]
+
 ghost use Rattle.std.specs.Prelude.{◌≡◌, ◌<◌};
 ghost use Rattle.bus.specs.Inside.{Fine};
 ghost use Rattle.bus.specs.Run.{traced, wire_run};

@@ -12,7 +12,7 @@ use Rattle.orders.specs.Form.{Message, Transaction, whole, message_at, wait_at}
 use Rattle.orders.specs.Places.{Stands, ended, begins, follows}
 use Rattle.orders.specs.Results.{Batch, slots_of, slots_of_all, slotted, batches}
 use Rattle.orders.proofs.WholeMessage.{message_inv, message_size, message_room}
-use Rattle.messages.specs.Along.{bytes_at, message_of, slot_of, beyond, slots_at, after, others, batches_at}
+use Rattle.messages.specs.Along.{bytes_at, message_of, slot_of, beyond, slots_at, after, batches_at}
 use Rattle.messages.specs.declared.Place.{Place}
 
 abbrev place : ℕ → ℕ → Place

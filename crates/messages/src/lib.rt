@@ -1,4 +1,6 @@
 // An accepted list in the plain reading: where it stands, and how far it has come.
+#![tactic(auto)]
+
 mod course;
 mod places;
 
@@ -6,14 +8,14 @@ use board::Seat;
 use plain::Time;
 
 // A place in the list, and the place in the result area that goes with it.
-#[derive(Drop)]
+#[derive(Clone, Copy)]
 pub struct Place {
     pub at: usize,
     pub slot: usize,
 }
 
 // A reading under way: the time, and the first `count` chips, whose memory is lent.
-#[derive(Drop)]
+#[derive(Clone, Copy)]
 pub struct Run {
     pub time: Time,
     pub count: usize,

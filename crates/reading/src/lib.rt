@@ -1,4 +1,6 @@
 // The entry "plain reading": a list without wires, and no ticks but their count.
+#![tactic(auto)]
+
 ghost use Rattle.std.specs.Prelude.{◌≡◌};
 ghost use Rattle.board.specs.Desk.{Outcome};
 ghost use Rattle.reading.specs.Read.{plain_run};

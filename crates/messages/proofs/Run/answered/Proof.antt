@@ -13,5 +13,5 @@ answered_spec =
     (λ c κs. search rules)
     (λ c κs. search rules)
     (λ c. let c7 = c.before.before.before.before.before.before.before in
-    answered_so _ c7.args.list.now c7.args.self c7.args.place _ _ _ c.before.byte_at.ensures
-    c.before.before.symbols.ensures.is c.any-listens.ensures))
+    answered_so _ c7.args.list.now c7.args.self c7.args.place _ _ _ c.before.byte_at-address.ensures
+    c.before.before.symbols-eighth.ensures.is c.any_listens.ensures))

@@ -17,4 +17,4 @@ closes_spec =
     (λ c. let c6 = c.before.before.before.before.before.before in
     let c8 = c6.before.before in
     let c14 = c8.before.before.before.before.before.before in
-    closed_so _ c14.args.self _ _ _ _ _ _ _ _ c14.requires.0 c8.symbol.ensures c6.all-stop.ensures.0 c6.all-stop.ensures.1 c.before.before.put-at.ensures))
+    closed_so _ c14.args.self _ _ _ _ _ _ _ _ c14.requires.0 c8.symbol-end.ensures c6.all_stop-next.ensures.0 c6.all_stop-next.ensures.1 c.before.before.put_at.ensures))

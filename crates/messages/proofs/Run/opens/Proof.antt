@@ -11,4 +11,4 @@ opens_spec =
     (tie.spec
     (λ c κs. search rules)
     (λ c κs. search rules)
-    (λ c. record { time = c.before.pass.ensures; cells = all_start 0 0 _ _ _ c.all-move.ensures.0; same = refl; fits = c.all-move.ensures.1 }))
+    (λ c. record { time = c.before.pass-later.ensures; cells = all_start 0 0 _ _ _ c.all_move-next.ensures.0; same = refl; fits = c.all_move-next.ensures.1 }))

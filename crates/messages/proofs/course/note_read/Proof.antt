@@ -15,4 +15,4 @@ note_read_spec =
     (λ c. search rules)
     (λ c κs. search rules)
     (λ c. search rules)
-    (λ c. read_noted _ _ _ _ _ _ _ c.before.before.before.before.before.before.put-at.ensures c.before.before.put-at2.ensures))
+    (λ c. read_noted _ _ _ _ _ _ _ c.before.before.before.before.before.before.put_at.ensures c.before.before.put_at-2.ensures))

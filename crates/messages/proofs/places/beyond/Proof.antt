@@ -16,4 +16,4 @@ beyond_spec =
     (λ c. search rules)
     (λ c. let c3 = c.before.before.before in
     let c6 = c3.before.before.before in
-    (beyond_so c6.args.list.now c6.args.place _ _ c3.size-at.ensures.0 c.before.room_at.ensures.0, search rules)))
+    (beyond_so c6.args.list.now c6.args.place _ _ c3.size_at.ensures.0 c.before.room_at.ensures.0, search rules)))
