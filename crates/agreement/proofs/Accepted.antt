@@ -12,7 +12,7 @@ use Rattle.lent.specs.Areas.{all_within}
 use Rattle.lines.specs.Levels.{most_held}
 use Rattle.kinds.specs.Kinds.{address_right}
 use Rattle.orders.specs.Form.{Message, Transaction}
-use Rattle.orders.specs.Results.{area_of, slots_of, slotted, batches, check_of, list_number}
+use Rattle.orders.specs.Results.{area_of, slots_of, slots_of_all, slotted, batches, check_of, list_number}
 use Rattle.eeprom.specs.States.{most_busy}
 use Rattle.board.specs.Marks.{chip_count, memory_at, bodies}
 use Rattle.board.specs.Desk.{states_right, board_number, bus_number}
@@ -68,4 +68,4 @@ sendables s (m ∷ ms) k = (sendable m k.0, sendables (s + slots_of m) ms k.1)
 pub runnables : (top : ℕ) (ts : List Transaction) → RightAll ts → Runnables (batches top ts)
 unfolding batches
 runnables top [] k = tt
-runnables top (t ∷ ts) k = (record { first = sendable t.first k.0; others = sendables _ t.others k.1 }, runnables _ ts k.2)
+runnables top (t ∷ ts) k = (record { first = sendable t.first k.0; others = sendables _ t.others k.1 }, runnables (top + (1 + slots_of_all (t.first ∷ t.others))) ts k.2)
