@@ -1,11 +1,15 @@
 // The whole bench sheet, unstarred cases included, over the wires and by the plain reading: a line for each case and each way, held against stored output.
 // A line: the number, the ticks, the result area, the pointer, the busy ticks left, and the bytes at places 0, 16, 31 and 32.
+#![tactic(auto)]
+
 use eeprom::word_at;
 use io::{print_decimal, print_hex, write_all};
 use lent::{Answer, byte_at};
-use libc::STDOUT_FILENO;
 use orders::check;
 use printing::write_hex;
+
+// Standard output's number.
+const STDOUT_FILENO: i32 = 1;
 
 fn number(n: u64) {
     write_all(STDOUT_FILENO, b" ");

@@ -1,6 +1,8 @@
 // The controller alone on records: one that is right, with each sample in turn replaced by each level; cut after each tick; with SCL held longer; and
 // what is refused. The answers in `stdout` are those of a model of the paper that was written apart from this code.
 // A run is told as its end (L the list's, F a fault, R the record's, N refused), its ticks, and an outcome or another byte that the case is about.
+#![tactic(auto)]
+
 use controller::{End, Told};
 use lent::{byte_at, put_at};
 

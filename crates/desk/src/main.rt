@@ -1,10 +1,17 @@
 // The desk's program: it reads an order list from standard input, runs it over two wires on the bench sheet's board and writes the results and the ticks,
 // or the number of the refusal. All that matters is in the proved library.
+#![tactic(auto)]
+
 use bus::run;
 use io::{print_decimal, read_full, write_all};
-use libc::{STDIN_FILENO, STDOUT_FILENO};
 use orders::check;
 use printing::write_hex;
+
+// Standard input's number.
+const STDIN_FILENO: i32 = 0;
+
+// Standard output's number.
+const STDOUT_FILENO: i32 = 1;
 
 // The program's own bound on its input, no entry's.
 const MOST_INPUT: usize = 512;

@@ -8,6 +8,8 @@
 //     x p u t  strap, pointer, busy ticks, asked time       E        one tick with the sample 4
 //     m y v    bytes of memory, of state, of drives lent
 //     ! ? ~    the same record again and again, cut at each tick by a STOP or a START, or with SDA flipped in that tick; then one byte is read
+#![tactic(auto)]
+
 mod report;
 mod spelling;
 

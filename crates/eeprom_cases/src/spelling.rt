@@ -3,7 +3,7 @@ use lent::put_at;
 use lines::{Lines, bit_at};
 
 // The record so far, and the lines of its last tick.
-#[derive(Drop)]
+#[derive(Clone, Copy)]
 pub struct Tape {
     pub at: u16,
     pub scl: bool,
@@ -11,7 +11,7 @@ pub struct Tape {
 }
 
 // What is lent and asked for.
-#[derive(Drop)]
+#[derive(Clone, Copy)]
 pub struct Case {
     pub strap: u8,
     pub pointer: u16,
@@ -24,7 +24,7 @@ pub struct Case {
     pub sweep: u8,
 }
 
-#[derive(Drop)]
+#[derive(Clone, Copy)]
 pub struct Script {
     pub tape: Tape,
     pub case: Case,

@@ -1,5 +1,7 @@
 // The whole-bus run for C and Rust, its answer in numbers; include/bilvakront.h says the same in C.
 // It stands in a crate and an archive of its own, so that the run's large steps have one call site each and are compiled into its loop.
+#![tactic(auto)]
+
 ghost use Rattle.std.specs.Prelude.{◌≡◌};
 ghost use Rattle.bus.specs.Run.{traced, wire_run};
 

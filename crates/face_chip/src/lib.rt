@@ -1,5 +1,7 @@
 // One chip alone for C and Rust, its answer in numbers; include/bilvakront.h says the same in C.
 // It stands in a crate and an archive of its own, so that the run's large steps have one call site each and are compiled into its loop.
+#![tactic(auto)]
+
 ghost use Rattle.std.specs.Prelude.{◌≡◌};
 ghost use Rattle.lone_chip.specs.Alone.{left_by, chip_alone};
 

@@ -1,4 +1,6 @@
 // The plain reading for C and Rust, its answer in numbers; include/bilvakront.h says the same in C.
+#![tactic(auto)]
+
 ghost use Rattle.std.specs.Prelude.{◌≡◌};
 ghost use Rattle.board.specs.Desk.{Outcome};
 ghost use Rattle.reading.specs.Read.{plain_run};

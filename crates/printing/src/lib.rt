@@ -1,7 +1,11 @@
 // What the programs write of bytes. That it ends is all that is promised: a program's output is held against a file.
+#![tactic(auto)]
+
 use io::print_hex;
 use lent::byte_at;
-use libc::STDOUT_FILENO;
+
+// Standard output's number.
+const STDOUT_FILENO: i32 = 1;
 
 // The first n bytes, in lower case, no blanks inside.
 pub fn write_hex(bytes: &[u8], n: usize) {
