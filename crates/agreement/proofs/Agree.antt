@@ -4,12 +4,12 @@ use mathlib.Core.Path.{◌≡◌, refl, ap, sym, ◌∙◌, subst}
 use mathlib.Core.Bool.{Bool, true}
 use mathlib.Core.List.{List, [], ◌++◌, map, append-nil}
 use native.Mathlib.Omega.{arith}
+use Rattle.std.specs.Prelude.{None}
 use Rattle.lines.specs.Levels.{hi, ◌∥◌, released}
 use Rattle.lines.specs.Events.{opened}
 use Rattle.orders.specs.Results.{Batch}
 use Rattle.orders.specs.Marks.{Log}
 use Rattle.symbols.specs.Ticks.{begun}
-use Rattle.symbols.specs.declared.Fault.TheVariants.{Clear}
 use Rattle.symbols.specs.declared.Phase.TheVariants.{Over}
 use Rattle.controller.specs.Plan.{State, opens, orders}
 use Rattle.eeprom.specs.Stages.{Body, sda_of}
@@ -35,7 +35,7 @@ first ts l hs bs = record { control = begun orders (opens ts l); holding = recor
 abbrev pub final_with : World → List Body → Bus State
 final_with w bs =
     record {
-      control = record { phase = Over Clear; was = hi; plan = opens [] w.log };
+      control = record { phase = Over None; was = hi; plan = opens [] w.log };
       holding = record { left = 0; list = w.clock.holds };
       eye = opened;
       chips = bs;

@@ -8,12 +8,13 @@ use native.Mathlib.Omega.{arith}
 use borrow.Author.Tests.{eqb-true, ltb-true}
 use lib.Dec.{eqb, ltb}
 use lib.ListN.{get_or, set}
+use Rattle.std.specs.Prelude.{Option, Some, None}
 use Rattle.kinds.specs.Kinds.{is_critical, remain}
 use Rattle.kinds.specs.declared.Quota.{Quota}
 use Rattle.orders.specs.Asking.{Order, put, get, order_of}
 use Rattle.orders.specs.Results.{Slotted}
 use Rattle.store.specs.Pages.{page_start}
-use Rattle.store.specs.Keeping.{Kept, geo, takes_at, takes, byte_now, steps, starts, stored, stops}
+use Rattle.store.specs.Keeping.{Kept, geo, takes_at, takes, byte_now, steps, starts, store_one, stored, stops}
 use Rattle.store.specs.declared.Store.{Store}
 use Rattle.plain.specs.Clock.{symbol}
 use Rattle.plain.specs.Plain.{Cell, World, listens, any_of, does, only, value_of, stores, writes_all, reads_all, carried, listening, answered, addressed, message_if, message, started, messages}
@@ -109,15 +110,18 @@ bytes_set [] (suc i) x h b = tt
 bytes_set (y ∷ m) zero x h b = (h, b.1)
 bytes_set (y ∷ m) (suc i) x h b = (b.0, bytes_set m i x h b.1)
 
-bytes_stored : (k base : ℕ) (l m : List ℕ) → Bytes m → Bytes (stored k base l m)
+bytes_stored : (k base : ℕ) (l : List (Option ℕ)) (m : List ℕ) → Bytes m → Bytes (stored k base l m)
 unfolding stored
 bytes_stored zero base l m b = b
-bytes_stored (suc k) base l m b = go (ltb (get_or l k 256) 256) refl (bytes_stored k base l m b)
+bytes_stored (suc k) base l m b = latched (get_or l k None) (bytes_stored k base l m b)
   where
-    go : (q : Bool) → ltb (get_or l k 256) 256 ≡ q → Bytes (stored k base l m)
-        → Bytes (cond q (set (stored k base l m) (base + k) (get_or l k 256)) (stored k base l m))
-    go true e h = bytes_set (stored k base l m) (base + k) (get_or l k 256) (ltb-true (get_or l k 256) 256 e) h
-    go false e h = h
+    go : (x : ℕ) (q : Bool) → ltb x 256 ≡ q → Bytes (stored k base l m) → Bytes (cond q (set (stored k base l m) (base + k) x) (stored k base l m))
+    go x true e h = bytes_set (stored k base l m) (base + k) x (ltb-true x 256 e) h
+    go x false e h = h
+
+    latched : (v : Option ℕ) → Bytes (stored k base l m) → Bytes (store_one (stored k base l m) (base + k) v)
+    latched None h = h
+    latched (Some x) h = go x (ltb x 256) refl h
 
 -- the four moves are tame
 pub tame_takes : (x : ℕ) → Tame (takes x)

@@ -6,11 +6,11 @@ use mathlib.Core.List.{List}
 use native.Mathlib.Omega.{arith}
 use borrow.Author.Tests.{eq-eqb, ne_eqb, ltb-true, ltb-false}
 use lib.Dec.{eqb, ltb}
+use Rattle.std.specs.Prelude.{None}
 use Rattle.lines.specs.Levels.{hi, lo, ◌∥◌, released, most_held}
 use Rattle.symbols.specs.Symbols.{is_over}
 use Rattle.symbols.specs.Faults.{fault_of}
 use Rattle.symbols.specs.Ticks.{Plan}
-use Rattle.symbols.specs.declared.Fault.TheVariants.{Clear}
 use Rattle.symbols.specs.declared.Phase.TheVariants.{Zero, One, Two, Three}
 use Rattle.wires.specs.Holding.{first_hold}
 use Rattle.wires.specs.Wires.{Bus, all_up, joined, lines_on}
@@ -20,7 +20,7 @@ use Rattle.agreement.proofs.Symbols.{Setting, Sound, middle, last, in_zero, in_o
 
 -- a tick of a run that goes on, and sees no fault
 pub record Clean (Q : Plan) (asked : ℕ) (b : Bus Q.State) : Type 0 where
-  pub clear : fault_of b.control.phase b.control.was (lines_on Q asked b) ≡ Clear
+  pub clear : fault_of b.control.phase b.control.was (lines_on Q asked b) ≡ None
   pub live : is_over b.control.phase ≡ false
 
 module _ (Q : Plan) (asked : ℕ) (c : Setting Q.State) (i : Sound Q c) where
@@ -63,7 +63,7 @@ module _ (Q : Plan) (asked : ℕ) (c : Setting Q.State) (i : Sound Q c) where
       few : (h j : ℕ) → j < h → h ≤ most_held → j < most_held
       few h j l m = omega arith
 
-      go : (q : Bool) → ltb j h ≡ q → fault_of (Two c.symbol j) c.was (eqb (h - j) 0 ∥ middle Q c) ≡ Clear
+      go : (q : Bool) → ltb j h ≡ q → fault_of (Two c.symbol j) c.was (eqb (h - j) 0 ∥ middle Q c) ≡ None
       go true e =
           ap (λ (y : Bool). fault_of (Two c.symbol j) c.was (y ∥ middle Q c)) (ne_eqb (h - j) 0 (some h j (ltb-true j h e)))
           ∙ clear_held c.symbol c.drive i.fine c.was j (few h j (ltb-true j h e) i.held)
@@ -93,7 +93,7 @@ module _ (Q : Plan) (asked : ℕ) (d : Q.State) (hs : List ℕ) (t : ℕ) (zs : 
   pub open_two_lines : lines_on Q asked (open_two Q d hs t zs k) ≡ released
   open_two_lines = free (t + (k + 2))
 
-  freely : (b : Bus Q.State) → lines_on Q asked b ≡ released → fault_of b.control.phase b.control.was released ≡ Clear → is_over b.control.phase ≡ false
+  freely : (b : Bus Q.State) → lines_on Q asked b ≡ released → fault_of b.control.phase b.control.was released ≡ None → is_over b.control.phase ≡ false
       → Clean Q asked b
   freely b l f n = record { clear = ap (fault_of b.control.phase b.control.was) l ∙ f; live = n }
 

@@ -8,11 +8,10 @@ use native.Mathlib.Omega.{arith}
 use native.Mathlib.Nat.{add-zero}
 use borrow.Author.Tests.{leb-true}
 use lib.Dec.{leb}
+use Rattle.std.specs.Prelude.{Option, Some, None}
 use Rattle.lent.specs.Areas.{all_within}
 use Rattle.lines.specs.Levels.{hi, lo, most_held}
 use Rattle.lines.specs.Events.{delivered}
-use Rattle.lines.specs.declared.Noted.{Noted}
-use Rattle.lines.specs.declared.Noted.TheVariants.{Nothing, Level}
 use Rattle.lines.specs.declared.Event.{Event}
 use Rattle.lines.specs.declared.Event.TheVariants.{Quiet, Started, Stopped, Bit}
 use Rattle.symbols.specs.Faults.{is_stop}
@@ -64,15 +63,15 @@ hearing Received v = Bit v
 pub record Past : Type 0 where
   pub was : Bool
   pub seen : Bool
-  pub noted : Noted
+  pub noted : Option Bool
   pub waiting : List Timed
 
 -- a symbol leaves it, if it ends before tick t with v on SDA (a STOP leaves both lines free: `Rest`, below)
 abbrev pub leaves : Symbol → Bool → ℕ → List Timed → Past
-leaves (Start b) v t zs = record { was = lo; seen = v; noted = Nothing; waiting = map (hears_at t Started) zs }
-leaves Stop v t zs = record { was = hi; seen = v; noted = Nothing; waiting = zs }
-leaves (Sent b) v t zs = record { was = b; seen = v; noted = Level v; waiting = zs }
-leaves Received v t zs = record { was = hi; seen = v; noted = Level v; waiting = zs }
+leaves (Start b) v t zs = record { was = lo; seen = v; noted = None; waiting = map (hears_at t Started) zs }
+leaves Stop v t zs = record { was = hi; seen = v; noted = None; waiting = zs }
+leaves (Sent b) v t zs = record { was = b; seen = v; noted = Some v; waiting = zs }
+leaves Received v t zs = record { was = hi; seen = v; noted = Some v; waiting = zs }
 
 module _ (Q : Plan) where
   -- at the start of a symbol: the bus, all of it, by the clock, the plan and the past; and the chips zs once the noted bit is delivered
@@ -84,7 +83,7 @@ module _ (Q : Plan) where
 
   -- between two transactions: both lines are let go, and no bit waits
   pub record Rest (b : Bus Q.State) (κ : Clock) (d : Q.State) (zs : List Timed) : Type 0 where
-    pub is : b ≡ at_start Q hi d κ.holds (eye hi hi Nothing) (bodies_at κ.now zs)
+    pub is : b ≡ at_start Q hi d κ.holds (eye hi hi None) (bodies_at κ.now zs)
     pub small : Small κ.holds
 
   module _ {b : Bus Q.State} {κ : Clock} {d : Q.State} {zs : List Timed} {π : Past} (a : At b κ d zs π) where
@@ -114,8 +113,8 @@ module _ (Q : Plan) where
   pub waits_as : {b : Bus Q.State} {κ : Clock} {d : Q.State} {zs : List Timed} → Rest b κ d zs → (k : ℕ) → Q.ask d ≡ first k
       → b ≡ in_wait Q d κ.holds κ.now zs k 0
   waits_as {κ = κ} {d = d} {zs = zs} a k e =
-      a.is ∙ ap (λ (q : Ask). bus Q (enter q) hi d 0 κ.holds (eye hi hi Nothing) (bodies_at κ.now zs)) e
-      ∙ ap (λ (t : ℕ). bus Q (enter (first k)) hi d 0 κ.holds (eye hi hi Nothing) (bodies_at t zs)) (sym (add-zero κ.now))
+      a.is ∙ ap (λ (q : Ask). bus Q (enter q) hi d 0 κ.holds (eye hi hi None) (bodies_at κ.now zs)) e
+      ∙ ap (λ (t : ℕ). bus Q (enter (first k)) hi d 0 κ.holds (eye hi hi None) (bodies_at t zs)) (sym (add-zero κ.now))
 
 next_now : (t h : ℕ) → suc (t + (3 + h)) ≡ t + (4 + h)
 next_now t h = omega arith

@@ -7,10 +7,9 @@ use native.Mathlib.Omega.{arith}
 use native.Mathlib.Nat.{zero-add, suc-add, add-zero, sub-zero, sub_self}
 use borrow.Author.Tests.{leb-true, leb-false, ltb-true, ltb-false}
 use lib.Dec.{leb, ltb}
+use Rattle.std.specs.Prelude.{Option, Some, None}
 use Rattle.lines.specs.Levels.{hi, lo, most_held}
 use Rattle.lines.specs.Events.{delivered}
-use Rattle.lines.specs.declared.Noted.{Noted}
-use Rattle.lines.specs.declared.Noted.TheVariants.{Nothing, Level}
 use Rattle.lines.specs.declared.Event.TheVariants.{Started}
 use Rattle.symbols.specs.Ticks.{Plan, first, enter}
 use Rattle.symbols.specs.declared.Begin.TheVariants.{First}
@@ -43,7 +42,7 @@ pub record Setting (S : Type 0) : Type 0 where
   pub plan : S
   pub holds : List ℕ
   pub seen : Bool
-  pub noted : Noted
+  pub noted : Option Bool
   pub now : ℕ
   pub waiting : List Timed
   pub chips : List Timed
@@ -59,14 +58,14 @@ module _ (Q : Plan) (c : Setting Q.State) where
   -- the bus in its phases: with the chips then, with the ticks for which SCL is still held, and at a tick
   abbrev pub one_with : List Timed → Bus Q.State
   one_with zs =
-      bus Q (One c.symbol) c.was c.plan (suc (first_hold c.holds)) (later_holds c.holds) (eye lo (c.was && up c.waiting) Nothing)
+      bus Q (One c.symbol) c.was c.plan (suc (first_hold c.holds)) (later_holds c.holds) (eye lo (c.was && up c.waiting) None)
       (bodies_at (suc c.now) zs)
 
   abbrev pub two_at : (gone left t : ℕ) → Bus Q.State
-  two_at j left t = bus Q (Two c.symbol j) c.was c.plan left (later_holds c.holds) (eye lo middle Nothing) (bodies_at t c.chips)
+  two_at j left t = bus Q (Two c.symbol j) c.was c.plan left (later_holds c.holds) (eye lo middle None) (bodies_at t c.chips)
 
   abbrev pub three_at : ℕ → Bus Q.State
-  three_at t = bus Q (Three c.symbol middle) c.was c.plan 0 (later_holds c.holds) (eye hi middle (Level middle)) (bodies_at t c.chips)
+  three_at t = bus Q (Three c.symbol middle) c.was c.plan 0 (later_holds c.holds) (eye hi middle (Some middle)) (bodies_at t c.chips)
 
   -- at its ticks, in phase 2 after j held ones
   abbrev pub in_zero : Bus Q.State
@@ -170,19 +169,19 @@ module _ (Q : Plan) (asked : ℕ) (c : Setting Q.State) (i : Sound Q c) where
 -- between two transactions, and in a wait: so many ticks of it are still to come
 module _ (Q : Plan) (d : Q.State) (hs : List ℕ) (t : ℕ) (zs : List Timed) where
   abbrev pub in_wait : (left gone : ℕ) → Bus Q.State
-  in_wait left gone = bus Q (enter (first left)) hi d 0 hs (eye hi hi Nothing) (bodies_at (t + gone) zs)
+  in_wait left gone = bus Q (enter (first left)) hi d 0 hs (eye hi hi None) (bodies_at (t + gone) zs)
 
   abbrev pub open_zero : ℕ → Bus Q.State
-  open_zero k = bus Q (Zero (Start First)) hi d 0 hs (eye hi hi Nothing) (bodies_at (t + k) zs)
+  open_zero k = bus Q (Zero (Start First)) hi d 0 hs (eye hi hi None) (bodies_at (t + k) zs)
 
   abbrev pub open_one : ℕ → Bus Q.State
-  open_one k = bus Q (One (Start First)) hi d 0 hs (eye hi hi Nothing) (bodies_at (t + (k + 1)) zs)
+  open_one k = bus Q (One (Start First)) hi d 0 hs (eye hi hi None) (bodies_at (t + (k + 1)) zs)
 
   abbrev pub open_two : ℕ → Bus Q.State
-  open_two k = bus Q (Two (Start First) 0) hi d 0 hs (eye hi hi Nothing) (bodies_at (t + (k + 2)) zs)
+  open_two k = bus Q (Two (Start First) 0) hi d 0 hs (eye hi hi None) (bodies_at (t + (k + 2)) zs)
 
   abbrev pub open_three : ℕ → Bus Q.State
-  open_three k = bus Q (Three (Start First) hi) hi d 0 hs (eye hi hi Nothing) (bodies_at (t + (k + 3)) zs)
+  open_three k = bus Q (Three (Start First) hi) hi d 0 hs (eye hi hi None) (bodies_at (t + (k + 3)) zs)
 
 module _ (Q : Plan) (asked : ℕ) (d : Q.State) (hs : List ℕ) (t : ℕ) (zs : List Timed) (u : up zs ≡ true) (k : ℕ) where
   abbrev from : Bus Q.State
@@ -194,7 +193,7 @@ module _ (Q : Plan) (asked : ℕ) (d : Q.State) (hs : List ℕ) (t : ℕ) (zs : 
   at_wait (suc j) l =
       after_suc Q asked j from ∙ ap (tick Q asked) (at_wait j (omega arith) ∙ ap (λ m. in_wait Q d hs t zs m j) (less k j l))
       ∙ wait_tick Q asked hi d hs (t + j) zs u (k - suc j)
-      ∙ ap (λ m. bus Q (enter (first (k - suc j))) hi d 0 hs (eye hi hi Nothing) (bodies_at m zs)) (on t j)
+      ∙ ap (λ m. bus Q (enter (first (k - suc j))) hi d 0 hs (eye hi hi None) (bodies_at m zs)) (on t j)
     where
       less : (k j : ℕ) → suc j ≤ k → k - j ≡ suc (k - suc j)
       less k j l = omega arith
@@ -211,7 +210,7 @@ module _ (Q : Plan) (asked : ℕ) (d : Q.State) (hs : List ℕ) (t : ℕ) (zs : 
   at_open_one : after Q asked (k + 1) from ≡ open_one Q d hs t zs k
   at_open_one =
       next_tick k (k + 1) _ _ (omega arith) at_open_zero (first_zero Q asked hi d hs (t + k) zs u)
-      ∙ ap (λ m. bus Q (One (Start First)) hi d 0 hs (eye hi hi Nothing) (bodies_at m zs)) (on t k)
+      ∙ ap (λ m. bus Q (One (Start First)) hi d 0 hs (eye hi hi None) (bodies_at m zs)) (on t k)
     where
       on : (t k : ℕ) → suc (t + k) ≡ t + (k + 1)
       on t k = omega arith
@@ -219,7 +218,7 @@ module _ (Q : Plan) (asked : ℕ) (d : Q.State) (hs : List ℕ) (t : ℕ) (zs : 
   at_open_two : after Q asked (k + 2) from ≡ open_two Q d hs t zs k
   at_open_two =
       next_tick (k + 1) (k + 2) _ _ (omega arith) at_open_one (first_one Q asked hi d hs (t + (k + 1)) zs u)
-      ∙ ap (λ m. bus Q (Two (Start First) 0) hi d 0 hs (eye hi hi Nothing) (bodies_at m zs)) (on t k)
+      ∙ ap (λ m. bus Q (Two (Start First) 0) hi d 0 hs (eye hi hi None) (bodies_at m zs)) (on t k)
     where
       on : (t k : ℕ) → suc (t + (k + 1)) ≡ t + (k + 2)
       on t k = omega arith
@@ -227,17 +226,17 @@ module _ (Q : Plan) (asked : ℕ) (d : Q.State) (hs : List ℕ) (t : ℕ) (zs : 
   at_open_three : after Q asked (k + 3) from ≡ open_three Q d hs t zs k
   at_open_three =
       next_tick (k + 2) (k + 3) _ _ (omega arith) at_open_two (first_two Q asked hi d hs (t + (k + 2)) zs u)
-      ∙ ap (λ m. bus Q (Three (Start First) hi) hi d 0 hs (eye hi hi Nothing) (bodies_at m zs)) (on t k)
+      ∙ ap (λ m. bus Q (Three (Start First) hi) hi d 0 hs (eye hi hi None) (bodies_at m zs)) (on t k)
     where
       on : (t k : ℕ) → suc (t + (k + 2)) ≡ t + (k + 3)
       on t k = omega arith
 
   -- the end of the first START, after a wait of k ticks
   pub opening_ends : after Q asked (k + 4) from
-      ≡ at_start Q lo (Q.next d lo) hs (eye hi lo Nothing) (bodies_at (t + (k + 4)) (map (hears_at (t + (k + 4)) Started) zs))
+      ≡ at_start Q lo (Q.next d lo) hs (eye hi lo None) (bodies_at (t + (k + 4)) (map (hears_at (t + (k + 4)) Started) zs))
   opening_ends =
       next_tick (k + 3) (k + 4) _ _ (omega arith) at_open_three (first_three Q asked hi d hs (t + (k + 3)) zs u)
-      ∙ ap (λ m. at_start Q lo (Q.next d lo) hs (eye hi lo Nothing) (bodies_at m (map (hears_at m Started) zs))) (on t k)
+      ∙ ap (λ m. at_start Q lo (Q.next d lo) hs (eye hi lo None) (bodies_at m (map (hears_at m Started) zs))) (on t k)
     where
       on : (t k : ℕ) → suc (t + (k + 3)) ≡ t + (k + 4)
       on t k = omega arith

@@ -5,18 +5,17 @@ use mathlib.Core.Path.{◌≡◌, refl, ap}
 use mathlib.Core.Bool.{Bool, true, false, ◌&&◌}
 use borrow.Author.Tests.{lt-leb}
 use lib.Dec.{eqb}
+use Rattle.std.specs.Prelude.{Option, Some, None}
 use Rattle.lines.specs.Levels.{hi, lo, ◌∥◌, most_held}
 use Rattle.lines.specs.Events.{event, note}
-use Rattle.lines.specs.declared.Noted.{Noted}
-use Rattle.lines.specs.declared.Noted.TheVariants.{Nothing, Level}
 use Rattle.lines.specs.declared.Event.{Event}
 use Rattle.lines.specs.declared.Event.TheVariants.{Quiet, Started, Stopped}
-use Rattle.symbols.specs.Symbols.{Row, four, row, drives}
+use Rattle.symbols.specs.Symbols.{four, row, drives}
+use Rattle.symbols.specs.declared.Row.{Row}
 use Rattle.symbols.specs.Faults.{fault_of}
 use Rattle.symbols.specs.declared.Begin.TheVariants.{First, Repeated}
 use Rattle.symbols.specs.declared.Symbol.{Symbol}
 use Rattle.symbols.specs.declared.Symbol.TheVariants.{Start, Stop, Sent, Received}
-use Rattle.symbols.specs.declared.Fault.TheVariants.{Clear}
 use Rattle.symbols.specs.declared.Phase.TheVariants.{Zero, One, Two, Three}
 use Rattle.wires.specs.Wires.{joined}
 
@@ -63,7 +62,7 @@ module _ (s : Symbol) (x : Bool) (f : Fine s x) (p : Bool) where
   pub lines_three : (w : Bool) (h : ℕ) (y : Bool) → joined (drives (Three s w) p) h y ≡ eqb h 0 ∥ (late s && y)
   lines_three w h y = ap (λ (r : Row). joined r.three h y) (clocked_row s x f p)
 
-pub clear_zero : (s : Symbol) (x : Bool) → Fine s x → (p y : Bool) → fault_of (Zero s) p (lo ∥ (p && y)) ≡ Clear
+pub clear_zero : (s : Symbol) (x : Bool) → Fine s x → (p y : Bool) → fault_of (Zero s) p (lo ∥ (p && y)) ≡ None
 unfolding fault_of
 clear_zero (Start First) x f p y = absurd f
 clear_zero (Start Repeated) x f true y = refl
@@ -75,7 +74,7 @@ clear_zero (Sent b) x f false y = refl
 clear_zero Received x f true y = refl
 clear_zero Received x f false y = refl
 
-pub clear_one : (s : Symbol) (x : Bool) → Fine s x → (p : Bool) → fault_of (One s) p (lo ∥ (mid s && x)) ≡ Clear
+pub clear_one : (s : Symbol) (x : Bool) → Fine s x → (p : Bool) → fault_of (One s) p (lo ∥ (mid s && x)) ≡ None
 unfolding fault_of
 clear_one (Start First) x f p = absurd f
 clear_one (Start Repeated) x f p = refl
@@ -85,7 +84,7 @@ clear_one (Sent false) x f p = refl
 clear_one Received x f p = refl
 
 -- a held tick, one of the first 16
-pub clear_held : (s : Symbol) (x : Bool) → Fine s x → (p : Bool) (n : ℕ) → n < most_held → fault_of (Two s n) p (lo ∥ (mid s && x)) ≡ Clear
+pub clear_held : (s : Symbol) (x : Bool) → Fine s x → (p : Bool) (n : ℕ) → n < most_held → fault_of (Two s n) p (lo ∥ (mid s && x)) ≡ None
 unfolding fault_of
 clear_held (Start First) x f p n h = absurd f
 clear_held (Start Repeated) x f p n h = rw (lt-leb most_held n h)
@@ -94,7 +93,7 @@ clear_held (Sent true) x f p n h = rw (lt-leb most_held n h)
 clear_held (Sent false) x f p n h = rw (lt-leb most_held n h)
 clear_held Received x f p n h = rw (lt-leb most_held n h)
 
-pub clear_two : (s : Symbol) (x : Bool) → Fine s x → (p : Bool) (n : ℕ) → fault_of (Two s n) p (hi ∥ (mid s && x)) ≡ Clear
+pub clear_two : (s : Symbol) (x : Bool) → Fine s x → (p : Bool) (n : ℕ) → fault_of (Two s n) p (hi ∥ (mid s && x)) ≡ None
 unfolding fault_of
 clear_two (Start First) x f p n = absurd f
 clear_two (Start Repeated) x f p n = rw f
@@ -103,7 +102,7 @@ clear_two (Sent true) x f p n = rw f
 clear_two (Sent false) x f p n = refl
 clear_two Received x f p n = refl
 
-pub clear_three : (s : Symbol) (x : Bool) → Fine s x → (p : Bool) → fault_of (Three s (mid s && x)) p (hi ∥ (late s && x)) ≡ Clear
+pub clear_three : (s : Symbol) (x : Bool) → Fine s x → (p : Bool) → fault_of (Three s (mid s && x)) p (hi ∥ (late s && x)) ≡ None
 unfolding fault_of
 clear_three (Start First) x f p = absurd f
 clear_three (Start Repeated) x f p = refl
@@ -120,13 +119,13 @@ told Stop = Stopped
 told (Sent b) = Quiet
 told Received = Quiet
 
-abbrev pub kept : Symbol → Bool → Noted
-kept (Start b) v = Nothing
-kept Stop v = Nothing
-kept (Sent b) v = Level v
-kept Received v = Level v
+abbrev pub kept : Symbol → Bool → Option Bool
+kept (Start b) v = None
+kept Stop v = None
+kept (Sent b) v = Some v
+kept Received v = Some v
 
-pub told_is : (s : Symbol) (x : Bool) → Fine s x → (n : Noted) → event hi hi (mid s && x) (late s && x) n ≡ told s
+pub told_is : (s : Symbol) (x : Bool) → Fine s x → (n : Option Bool) → event hi hi (mid s && x) (late s && x) n ≡ told s
 told_is (Start First) x f n = absurd f
 told_is (Start Repeated) x f n = rw f
 told_is Stop x f n = rw f
@@ -135,7 +134,7 @@ told_is (Sent false) x f n = refl
 told_is Received true f n = refl
 told_is Received false f n = refl
 
-pub kept_is : (s : Symbol) (x : Bool) → Fine s x → note hi hi (mid s && x) (late s && x) (Level (mid s && x)) ≡ kept s (late s && x)
+pub kept_is : (s : Symbol) (x : Bool) → Fine s x → note hi hi (mid s && x) (late s && x) (Some (mid s && x)) ≡ kept s (late s && x)
 kept_is (Start First) x f = absurd f
 kept_is (Start Repeated) x f = rw f
 kept_is Stop x f = rw f

@@ -7,9 +7,8 @@ use mathlib.Core.List.{List, [], ◌∷◌, map}
 use native.Mathlib.Omega.{arith}
 use borrow.Author.Tests.{leb-true, leb-false, eq-eqb, ne_eqb}
 use lib.Dec.{eqb, leb}
+use Rattle.std.specs.Prelude.{Option, Some, None}
 use Rattle.lines.specs.Events.{delivered}
-use Rattle.lines.specs.declared.Noted.{Noted}
-use Rattle.lines.specs.declared.Noted.TheVariants.{Nothing, Level}
 use Rattle.lines.specs.declared.Event.{Event}
 use Rattle.lines.specs.declared.Event.TheVariants.{Quiet, Started, Stopped, Bit}
 use Rattle.eeprom.specs.Stages.{Core, Body, hears, sda_of, due, body_tick}
@@ -64,12 +63,12 @@ module _ (asked t : ℕ) where
   unfolding body_tick hears body
   quiet_tick = map_by _ _ _ (λ z. ap (body z.core) (one_less z.free t))
 
-  deliver_one : (n : Noted) (z : Timed) → body_tick asked (delivered n) (body_at t z) ≡ body_at (suc t) (hears_at t (delivered n) z)
+  deliver_one : (n : Option Bool) (z : Timed) → body_tick asked (delivered n) (body_at t z) ≡ body_at (suc t) (hears_at t (delivered n) z)
   unfolding body_tick body
-  deliver_one Nothing z = ap₂ (λ q m. body (hears q Quiet z.core) m) (over_by z.free t) (one_less z.free t)
-  deliver_one (Level b) z = ap₂ (λ q m. body (hears q (Bit b) z.core) m) (over_by z.free t) (one_less z.free t)
+  deliver_one None z = ap₂ (λ q m. body (hears q Quiet z.core) m) (over_by z.free t) (one_less z.free t)
+  deliver_one (Some b) z = ap₂ (λ q m. body (hears q (Bit b) z.core) m) (over_by z.free t) (one_less z.free t)
 
-  pub deliver_tick : (n : Noted) (zs : List Timed) → map (body_tick asked (delivered n)) (bodies_at t zs) ≡ bodies_at (suc t) (map (hears_at t (delivered n)) zs)
+  pub deliver_tick : (n : Option Bool) (zs : List Timed) → map (body_tick asked (delivered n)) (bodies_at t zs) ≡ bodies_at (suc t) (map (hears_at t (delivered n)) zs)
   deliver_tick n = map_square _ _ _ _ (deliver_one n)
 
   pub start_tick : (zs : List Timed) → map (body_tick asked Started) (bodies_at t zs) ≡ bodies_at (suc t) (map (hears_at (suc t) Started) zs)

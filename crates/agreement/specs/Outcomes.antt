@@ -1,10 +1,10 @@
 -- How a run over the wires ends: by no fault, and after the plain reading's ticks (request, demand 3; paper 01, "Line faults"). Assumes nothing.
+use Rattle.std.specs.Prelude.{None}
 use Rattle.std.specs.Prelude.{ℕ, ◌≤◌, ◌<◌, ◌≡◌, true, false, List, [], ◌∷◌, get_or}
 use Rattle.lines.specs.Levels.{released}
 use Rattle.orders.specs.Results.{Batch}
 use Rattle.symbols.specs.Symbols.{is_over}
 use Rattle.symbols.specs.Faults.{fault_of}
-use Rattle.symbols.specs.declared.Fault.TheVariants.{Clear}
 use Rattle.symbols.specs.declared.Phase.TheVariants.{Over}
 use Rattle.controller.specs.Plan.{orders}
 use Rattle.controller.specs.Bound.{most_ticks}
@@ -19,10 +19,10 @@ AllClosed a (t ∷ ts) = (get_or a t.top 0 ≡ 0) × AllClosed a ts
 module _ (i : Input) where
   -- the run ends without a fault and with both lines released; no tick of it sees one; every transaction's outcome is 0
   pub record NoFault : Type 0 where
-    pub ended : (whole i).last.control.phase ≡ Over Clear
+    pub ended : (whole i).last.control.phase ≡ Over None
     pub let_go : lines_on orders i.asked (whole i).last ≡ released
     pub clear : (n : ℕ) → n < (answer i).answer.ticks
-        → let b = after orders i.asked n (begin i) in fault_of b.control.phase b.control.was (lines_on orders i.asked b) ≡ Clear
+        → let b = after orders i.asked n (begin i) in fault_of b.control.phase b.control.was (lines_on orders i.asked b) ≡ None
     pub outcomes : AllClosed (answer i).results (batched i)
 
   -- the controller is at its end after exactly the plain reading's ticks; so any larger number of ticks gives the same run, and the list's bound is one

@@ -6,6 +6,7 @@ use mathlib.Core.Bool.{Bool, true, false, cond, ◌&&◌}
 use mathlib.Core.List.{List, [], ◌∷◌, ◌++◌, map}
 use borrow.Author.Tests.{eq-eqb, ne_eqb, leb-true, leb-false}
 use lib.Dec.{eqb, leb}
+use Rattle.std.proofs.Math.Bool.{and-true}
 use Rattle.lines.specs.Events.{is_quiet}
 use Rattle.lines.specs.declared.Event.{Event}
 use Rattle.lines.specs.declared.Event.TheVariants.{Quiet, Started, Stopped, Bit}
@@ -68,18 +69,14 @@ all_heard asked t e (x ∷ xs) = ap₂ ◌∷◌ (heard_one asked t e x) (all_he
 pub none_heard : (asked t : ℕ) (e : Event) → is_quiet e ≡ true → (xs : List Seated) → map (body_of (suc t)) xs ≡ map (body_tick asked e) (map (body_of t) xs)
 none_heard asked t Quiet q [] = refl
 none_heard asked t Quiet q (x ∷ xs) = ap₂ ◌∷◌ (quiet_one asked t x) (none_heard asked t Quiet q xs)
-none_heard asked t Started q xs = let z : ◌≡◌ {A = ℕ} 0 1 = cc in absurd (omega arith)
-none_heard asked t Stopped q xs = let z : ◌≡◌ {A = ℕ} 0 1 = cc in absurd (omega arith)
-none_heard asked t (Bit b) q xs = let z : ◌≡◌ {A = ℕ} 0 1 = cc in absurd (omega arith)
+none_heard asked t Started q xs = cc
+none_heard asked t Stopped q xs = cc
+none_heard asked t (Bit b) q xs = cc
 
 -- what they drive, one chip more
 pub up_append : (xs : List Seated) (y : Seated) → all_up (xs ++ (y ∷ [])) ≡ all_up xs && sda_of y.seat.chip.stage
 unfolding all_up
-up_append [] y = and_true (sda_of y.seat.chip.stage)
-  where
-    and_true : (a : Bool) → a && true ≡ a
-    and_true true = refl
-    and_true false = refl
+up_append [] y = and-true (sda_of y.seat.chip.stage)
 up_append (x ∷ xs) y =
     ap (λ (b : Bool). sda_of x.seat.chip.stage && b) (up_append xs y) ∙ assoc (sda_of x.seat.chip.stage) (all_up xs) (sda_of y.seat.chip.stage)
   where

@@ -6,6 +6,7 @@ use native.Mathlib.Omega.{arith}
 use mathlib.Core.Path.{◌≡◌, refl, ap, ap₂, sym, ◌∙◌}
 use mathlib.Core.Bool.{Bool, true, false, cond}
 use mathlib.Core.List.{List, [], ◌∷◌, ◌++◌, append_assoc, map}
+use Rattle.std.proofs.lemmas.List.{append-nil}
 use lib.Count.{ones}
 use lib.ListN.{length, set, take, drop}
 use lib.Seq.{take-suc-set, drop-drop, length-take-le}
@@ -24,12 +25,11 @@ use Rattle.board.proofs.Places.{place_next, all_places}
 
 module _ (marks : ℕ) (states : List ℕ) where
   -- one chip, from its words
-  pub seat_so : (s p a b x y : ℕ) (r : Store) → p ≡ place_of marks s → x ≡ word_at states a → y ≡ word_at states b → a ≡ 4 * p → b ≡ 4 * p + 2
-      → ((m : List ℕ) → kept_of r m ≡ kept_at (80 + s) Large x m) → ◌≡◌ {A = Seat} (record { chip = record { stage = Deaf; store = r }; free = y }) (seat_at marks states s)
-  seat_so s p a b x y r e f g h i k =
-      ap₂ (λ (w : Store) (z : ℕ). record { chip = record { stage = Deaf; store = w }; free = z })
-      (ap (λ (q : Kept). q.store) (k []) ∙ ap (λ (z : ℕ). (kept_at (80 + s) Large z []).store) (f ∙ ap (word_at states) (h ∙ ap (λ (z : ℕ). 4 * z) e)))
-      (g ∙ ap (word_at states) (i ∙ ap (λ (z : ℕ). 4 * z + 2) e))
+  pub seat_so : (s : ℕ) (w : ℕ × ℕ) (r : Store) → w ≡ (word_at states (4 * place_of marks s), word_at states (4 * place_of marks s + 2))
+      → ((m : List ℕ) → kept_of r m ≡ kept_at (80 + s) Large w.0 m) → ◌≡◌ {A = Seat} (record { chip = record { stage = Deaf; store = r }; free = w.1 }) (seat_at marks states s)
+  seat_so s w r e k =
+      ap₂ (λ (u : Store) (z : ℕ). record { chip = record { stage = Deaf; store = u }; free = z })
+      (ap (λ (q : Kept). q.store) (k []) ∙ ap (λ (v : ℕ × ℕ). (kept_at (80 + s) Large v.0 []).store) e) (ap (λ (v : ℕ × ℕ). v.1) e)
 
   -- the places below a strap are filled, the rest is to come
   abbrev pub Filled : List Seat → ℕ → Type 0
@@ -69,15 +69,11 @@ module _ (marks : ℕ) (states : List ℕ) where
   unfolding ones
   none_yet xs = ap (λ (n : ℕ). take (ones n) xs ++ seats_from marks states 8 0) (mod-one marks)
 
-  append_nil : {A : Type 0} (l : List A) → l ++ [] ≡ l
-  append_nil [] = refl
-  append_nil (x ∷ l) = ap (λ (r : List _). x ∷ r) (append_nil l)
-
   pub all_seats : (xs : List Seat) (s : ℕ) → marks < 256 → Filled xs s → s ≤ 8 → 8 ≤ s → take (ones marks) xs ≡ seats_from marks states 8 0
   unfolding seats_from
   all_seats xs s h f l m =
       let e : s ≡ 8 = omega arith in
-      sym (append_nil (take (ones marks) xs)) ∙ ap (λ (n : ℕ). take n xs ++ []) (sym (all_places marks h)) ∙ (rw e at f)
+      sym (append-nil (take (ones marks) xs)) ∙ ap (λ (n : ℕ). take n xs ++ []) (sym (all_places marks h)) ∙ (rw e at f)
 
 -- the loaded chips with their parts of the memory are the rules' chips
 

@@ -18,17 +18,11 @@ few m h = ones-le 8 m h
 pub strap_bit : (s : ℕ) → s ≤ 8 → 1 * 2 ^ s % 4294967296 ≡ 2 ^ s
 strap_bit s h = ap (λ (n : ℕ). n % 4294967296) (one-mul (2 ^ s)) ∙ mod-eq_of_lt (lt_of_le_of_lt (pow_mono {j = 8} h) (omega arith))
 
-pub strap_some : (s : ℕ) → s ≤ 8 → 0 < 1 * 2 ^ s % 4294967296
-strap_some s h = rw (strap_bit s h) (pow_pos s)
-
 pub few_below : (m s : ℕ) → s ≤ 8 → ones (m % (1 * 2 ^ s % 4294967296)) ≤ s
 few_below m s h = rw (strap_bit s h) (ones-le s (m % 2 ^ s) (mod-lt m (pow_pos s)))
 
 pub all_places : (m : ℕ) → m < 256 → place_of m 8 ≡ ones m
 all_places m h = ap ones (mod-eq_of_lt h)
-
-pub place_is : (m s : ℕ) → s ≤ 8 → ones (m % (1 * 2 ^ s % 4294967296)) ≡ place_of m s
-place_is m s h = ap (λ (n : ℕ). ones (m % n)) (strap_bit s h)
 
 val_bit : (n : ℕ) → n < 2 → ones n ≡ digit (eqb n 1)
 unfolding ones

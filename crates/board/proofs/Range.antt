@@ -1,11 +1,11 @@
 -- What the desk turns down of a board, as the code looks at it: state after state, then the ladder of numbers. Assumes nothing.
 use Prim.Native.Nat.{ℕ, suc, ◌+◌, ◌-◌, ◌*◌, ◌≤◌, ◌<◌}
-use native.Mathlib.Nat.{le_trans, mul-le-mul}
 use native.Mathlib.Numerals.{add-one}
 use native.Mathlib.Omega.{arith}
 use mathlib.Core.Path.{◌≡◌, refl, ap, ap₂, sym, ◌∙◌}
 use mathlib.Core.Bool.{Bool, true, false, not, ◌&&◌}
 use mathlib.Core.List.{List}
+use Rattle.std.proofs.lemmas.Bool.{not-true, not-false}
 use borrow.Author.Tests.{eq-eqb, ne_eqb, eqb-true, lt-ltb, le-ltb}
 use lib.Count.{ones}
 use lib.Dec.{eqb, ltb, leb}
@@ -19,14 +19,6 @@ use Rattle.eeprom.specs.States.{most_busy, word_at}
 use Rattle.board.specs.Marks.{place_of, memory_at, bodies_from, bodies}
 use Rattle.board.specs.Desk.{states_right, board_number}
 use Rattle.board.proofs.Places.{all_places}
-
-not_true : (r : Bool) → not r ≡ true → r ≡ false
-not_true true h = sym h
-not_true false h = refl
-
-not_false : (r : Bool) → not r ≡ false → r ≡ true
-not_false true h = refl
-not_false false h = sym h
 
 module _ (marks : ℕ) (states : List ℕ) where
   -- all states below a strap are in range
@@ -44,22 +36,19 @@ module _ (marks : ℕ) (states : List ℕ) where
         let e : states_right (bodies_from marks m states (8 - s) s) ≡ states_right (bodies_from marks m states (8 - suc s) (suc s)) = rw (step, q) in
         rw (add-one s) (sym e ∙ so_far m)
 
-    module _ (t : b ≡ true) (p a c x y : ℕ) (place : p ≡ place_of marks s) (words : x ≡ word_at states a) (busies : y ≡ word_at states c) (first : a ≡ 4 * p) (second : c ≡ 4 * p + 2)
-        (r : Bool) (right : r ≡ ltb x (geometry_of Large).size && leb y most_busy) where
+    module _ (t : b ≡ true) (w : ℕ × ℕ) (words : w ≡ (word_at states (4 * place_of marks s), word_at states (4 * place_of marks s + 2))) (r : Bool) (right : r ≡ ltb w.0 (geometry_of Large).size && leb w.1 most_busy) where
       here : (m : List ℕ) → states_right (bodies_from marks m states (8 - s) s) ≡ r && states_right (bodies_from marks m states (8 - suc s) (suc s))
       unfolding bodies_from states_right
       here m =
           let q : bit_at s marks ≡ true = sym looked ∙ t in
-          let x_is : x ≡ word_at states (4 * place_of marks s) = words ∙ ap (word_at states) (first ∙ ap (λ (n : ℕ). 4 * n) place) in
-          let y_is : y ≡ word_at states (4 * place_of marks s + 2) = busies ∙ ap (word_at states) (second ∙ ap (λ (n : ℕ). 4 * n + 2) place) in
-          rw (step, q, right, x_is, y_is)
+          rw (step, q, right, words)
 
       pub out_of_range : not r ≡ true → (m : List ℕ) → false ≡ states_right (bodies marks m states)
       out_of_range n m = go r n (here m)
         where
           go : (z : Bool) → not z ≡ true → states_right (bodies_from marks m states (8 - s) s) ≡ z && states_right (bodies_from marks m states (8 - suc s) (suc s))
               → false ≡ states_right (bodies marks m states)
-          go true n h = let z : ◌≡◌ {A = ℕ} 0 1 = cc in absurd (omega arith)
+          go true n h = cc
           go false n h = sym h ∙ so_far m
 
       pub in_range : not r ≡ false → Looked (s + 1)
@@ -68,19 +57,13 @@ module _ (marks : ℕ) (states : List ℕ) where
           go : (z : Bool) → not z ≡ false → states_right (bodies_from marks m states (8 - s) s) ≡ z && states_right (bodies_from marks m states (8 - suc s) (suc s))
               → states_right (bodies_from marks m states (8 - (s + 1)) (s + 1)) ≡ states_right (bodies marks m states)
           go true n h = rw (add-one s) (sym h ∙ so_far m)
-          go false n h = let z : ◌≡◌ {A = ℕ} 0 1 = cc in absurd (omega arith)
-
-  pub none_looked : Looked 0
-  none_looked m = refl
+          go false n h = cc
 
   pub all_looked : (s : ℕ) → Looked s → s ≤ 8 → 8 ≤ s → (m : List ℕ) → true ≡ states_right (bodies marks m states)
   unfolding states_right bodies_from
   all_looked s f h r m = let e : s ≡ 8 = omega arith in let g = f m in (rw e at g)
 
 -- the ladder
-
-pub small_product : (a b : ℕ) → a ≤ 65535 → b ≤ 8 → a * b ≤ 524280
-small_product a b h l = le_trans (mul-le-mul h l) (omega arith)
 
 module _ (marks : ℕ) (memory states holds : List ℕ) (asked : ℕ) (byte : marks < 256) (n size : ℕ) (count : n ≡ ones marks) (sized : size ≡ (geometry_of Large).size) where
   all_memory : memory_at marks 8 ≡ size * n
@@ -107,7 +90,7 @@ module _ (marks : ℕ) (memory states holds : List ℕ) (asked : ℕ) (byte : ma
 
       pub bad_state : not r ≡ true → 4 ≡ board_number marks memory states holds asked
       unfolding board_number
-      bad_state h = rw (first, second, said false (not_true r h))
+      bad_state h = rw (first, second, said false (not-true r h))
 
       module _ (states_good : not r ≡ false) (q : Bool) (within : q ≡ all_within 16 holds) where
         held : (z : Bool) → q ≡ z → all_within most_held holds ≡ z
@@ -116,15 +99,15 @@ module _ (marks : ℕ) (memory states holds : List ℕ) (asked : ℕ) (byte : ma
 
         pub bad_hold : not q ≡ true → 5 ≡ board_number marks memory states holds asked
         unfolding board_number
-        bad_hold h = rw (first, second, said true (not_false r states_good), held false (not_true q h))
+        bad_hold h = rw (first, second, said true (not-false r states_good), held false (not-true q h))
 
         pub too_busy : not q ≡ false → 20000 < asked → 6 ≡ board_number marks memory states holds asked
         unfolding board_number most_busy
-        too_busy g h = rw (first, second, said true (not_false r states_good), held true (not_false q g), lt-ltb 20000 asked h)
+        too_busy g h = rw (first, second, said true (not-false r states_good), held true (not-false q g), lt-ltb 20000 asked h)
 
         pub right_board : not q ≡ false → asked ≤ 20000 → 0 ≡ board_number marks memory states holds asked
         unfolding board_number most_busy
-        right_board g h = rw (first, second, said true (not_false r states_good), held true (not_false q g), le-ltb 20000 asked h)
+        right_board g h = rw (first, second, said true (not-false r states_good), held true (not-false q g), le-ltb 20000 asked h)
 
 -- an accepted board has the lengths that its marks ask for
 pub board_lengths : (marks : ℕ) (memory states holds : List ℕ) (asked : ℕ) → board_number marks memory states holds asked ≡ 0

@@ -1,32 +1,17 @@
 -- The states handed back: chip after chip, four bytes each, and they are the rules' state row. Assumes nothing.
-use Prim.Native.Nat.{ℕ, zero, suc, ◌+◌, ◌-◌, ◌*◌, ◌/◌, ◌%◌, ◌≤◌, ◌<◌}
-use native.Mathlib.Nat.{sub-zero}
+use Prim.Native.Nat.{ℕ, zero, suc, ◌+◌, ◌-◌, ◌*◌, ◌≤◌, ◌<◌}
 use native.Mathlib.Numerals.{add-one}
 use native.Mathlib.Omega.{arith}
 use mathlib.Core.Path.{◌≡◌, refl, ap, ap₂, sym, ◌∙◌}
 use mathlib.Core.List.{List, [], ◌∷◌, ◌++◌, append_assoc, map}
+use Rattle.std.proofs.lemmas.List.{append-nil}
 use lib.ListN.{length, get_or, take, drop, length-append, length-drop}
 use lib.Seq.{drop-cons, take_at, length-take-le, take_all}
 use Rattle.lent.specs.Areas.{over}
 use Rattle.lent.proofs.Rows.{over_whole}
-use Rattle.eeprom.specs.States.{word_bytes}
 use Rattle.board.specs.Marks.{state_row}
 use Rattle.board.specs.Seats.{size_of, seated, body_of, seat_bytes, seat_row}
 use Rattle.board.specs.declared.Seat.{Seat}
-
--- two bytes keep a number's own two low bytes
-low_word : (p n m : ℕ) → m ≡ n % 65536 → word_bytes p (word_bytes m []) ≡ word_bytes p (word_bytes n [])
-low_word p n m e = rw e (ap₂ (λ (a b : ℕ). word_bytes p (a ∷ b ∷ [])) (low n) (high n))
-  where
-    low : (n : ℕ) → n % 65536 % 256 ≡ n % 256
-    low n = omega arith
-
-    high : (n : ℕ) → n % 65536 / 256 % 256 ≡ n / 256 % 256
-    high n = omega arith
-
-pub put_so : (x : Seat) (t n : ℕ) (st r : List ℕ) → n ≡ x.free - t → r ≡ over (word_bytes x.chip.store.pointer (word_bytes (n % 65536) [])) st
-    → r ≡ over (seat_bytes t x []) st
-put_so x t n st r e h = h ∙ ap (λ (l : List ℕ). over l st) (low_word x.chip.store.pointer n (n % 65536) refl ∙ ap (λ (k : ℕ). word_bytes x.chip.store.pointer (word_bytes k [])) e)
 
 pub seat_row_lem : (t n : ℕ) (xs : List Seat) (m : List ℕ) → state_row (map (body_of t) (seated n xs m)) ≡ seat_row t n xs
 unfolding state_row seated seat_row
@@ -42,9 +27,6 @@ module _ (t n i : ℕ) (xs : List Seat) (st : List ℕ) where
   row_from : (d : Seat) → i < n → i < length xs → seat_row t (n - i) (drop i xs) ≡ seat_bytes t (get_or xs i d) (seat_row t (n - suc i) (drop (suc i) xs))
   unfolding seat_row
   row_from d h l = let k : n - i ≡ suc (n - suc i) = omega arith in rw (k, drop-cons xs i d l)
-
-pub none_saved : (t n : ℕ) (xs : List Seat) (st : List ℕ) → Saved t n 0 xs st
-none_saved t n xs st = ap (λ (k : ℕ). seat_row t k xs) (sub-zero n)
 
 four : (t : ℕ) (x : Seat) (l : List ℕ) → seat_bytes t x l ≡ seat_bytes t x [] ++ l
 four t x l = refl
@@ -75,16 +57,12 @@ one_saved t n i xs st p d so_far l h r e =
     num4 : (i n l : ℕ) → i < n → n ≤ l → i < l
     num4 i n l h r = omega arith
 
-append_nil : (l : List ℕ) → l ++ [] ≡ l
-append_nil [] = refl
-append_nil (x ∷ l) = ap (λ (r : List ℕ). x ∷ r) (append_nil l)
-
 pub all_saved : (t n i : ℕ) (xs : List Seat) (st : List ℕ) → Saved t n i xs st → length st ≡ 4 * n → i ≤ n → n ≤ i → st ≡ seat_row t n xs
 unfolding seat_row
 all_saved t n i xs st s l h r =
     let e : i ≡ n = omega arith in
     let z : n - i ≡ 0 = omega arith in
-    sym (append_nil st) ∙ ap (λ (m : List ℕ). m ++ []) (sym (take_all (i * 4) st (num i n (length st) l r))) ∙ (rw z at s)
+    sym (append-nil st) ∙ ap (λ (m : List ℕ). m ++ []) (sym (take_all (i * 4) st (num i n (length st) l r))) ∙ (rw z at s)
   where
     num : (i n l : ℕ) → l ≡ 4 * n → n ≤ i → l ≤ i * 4
     num i n l e h = omega arith

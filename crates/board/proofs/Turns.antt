@@ -3,10 +3,11 @@ use Prim.Native.Nat.{ℕ, suc, ◌+◌, ◌-◌, ◌≤◌, ◌<◌}
 use native.Mathlib.Numerals.{add-one}
 use native.Mathlib.Omega.{arith}
 use mathlib.Core.Path.{◌≡◌, refl, ap, ap₂, sym, ◌∙◌}
-use mathlib.Core.Bool.{Bool, true, false, ◌&&◌}
+use mathlib.Core.Bool.{Bool, true, ◌&&◌}
 use mathlib.Core.List.{List, [], ◌++◌, map}
 use lib.ListN.{length, get_or, set, take, drop, length-append, length-drop, length-set}
 use lib.Seq.{length-take-le, take_all, take-suc, take-suc-set, set-get_or}
+use Rattle.std.proofs.Math.Bool.{and-true}
 use Rattle.lines.specs.declared.Event.{Event}
 use Rattle.lines.specs.declared.Event.TheVariants.{Quiet, Started, Stopped, Bit}
 use Rattle.store.specs.Pages.{geometry_of}
@@ -28,12 +29,12 @@ heard_size asked t e x m p y h =
 
 deaf_is : (s : Stage) → is_deaf s ≡ true → s ≡ Deaf
 deaf_is Deaf h = refl
-deaf_is (Naming n x) h = let z : ◌≡◌ {A = ℕ} 0 1 = cc in absurd (omega arith)
-deaf_is (Named r) h = let z : ◌≡◌ {A = ℕ} 0 1 = cc in absurd (omega arith)
-deaf_is (Taking n x) h = let z : ◌≡◌ {A = ℕ} 0 1 = cc in absurd (omega arith)
-deaf_is Taken h = let z : ◌≡◌ {A = ℕ} 0 1 = cc in absurd (omega arith)
-deaf_is (Sending n x) h = let z : ◌≡◌ {A = ℕ} 0 1 = cc in absurd (omega arith)
-deaf_is Asking h = let z : ◌≡◌ {A = ℕ} 0 1 = cc in absurd (omega arith)
+deaf_is (Naming n x) h = cc
+deaf_is (Named r) h = cc
+deaf_is (Taking n x) h = cc
+deaf_is Taken h = cc
+deaf_is (Sending n x) h = cc
+deaf_is Asking h = cc
 
 -- what the loop over the chips keeps: the first i have heard
 pub record Hearing (asked t : ℕ) (e : Event) (n i a : ℕ) (xs : List Seated) (cs : List Seat) (m : List ℕ) (up : Bool) : Type 0 where
@@ -127,7 +128,7 @@ module _ (asked t : ℕ) (e : Event) (n i a : ℕ) (xs : List Seated) (cs : List
         heard_so_far = sym (set-get_or (seated n cs m) i (parted d []))
             ∙ done_step (heard asked t e) i xs (seated n cs m) (get_or (seated n cs m) i (parted d [])) (parted d []) so_far.heard_so_far
             (part_is (parted d []) ∙ sym same ∙ ap (heard asked t e) (sym (part_is (parted d [])))) (rw xs_length below);
-        up_so_far = so_far.up_so_far ∙ sym (and_true (all_up (take i (seated n cs m))))
+        up_so_far = so_far.up_so_far ∙ sym (and-true (all_up (take i (seated n cs m))))
             ∙ ap (λ (v : Bool). all_up (take i (seated n cs m)) && v) (sym (ap (λ (s : Seated). sda_of s.seat.chip.stage) (part_is (parted d [])) ∙ ap sda_of q))
             ∙ sym (up_append (take i (seated n cs m)) (get_or (seated n cs m) i (parted d [])))
             ∙ ap all_up (sym (take-suc (seated n cs m) i (parted d []) i_in)) ∙ ap (λ (o : ℕ). all_up (take o (seated n cs m))) (sym (add-one i));
@@ -135,19 +136,15 @@ module _ (asked t : ℕ) (e : Event) (n i a : ℕ) (xs : List Seated) (cs : List
         fits = so_far.fits;
         room = so_far.room;
       }
-    where
-      and_true : (v : Bool) → v && true ≡ v
-      and_true true = refl
-      and_true false = refl
 
   pub one_passed : (x y : Bool) → x ≡ is_deaf (get_or cs i d).chip.stage → x ≡ true → y ≡ is_bit e → y ≡ true
       → Hearing asked t e n (i + 1) (a + size_of (get_or cs i d)) xs cs m up
   one_passed x y p q r s = go e (sym r ∙ s) refl
     where
       go : (v : Event) → is_bit v ≡ true → e ≡ v → Hearing asked t e n (i + 1) (a + size_of (get_or cs i d)) xs cs m up
-      go Quiet h f = let z : ◌≡◌ {A = ℕ} 0 1 = cc in absurd (omega arith)
-      go Started h f = let z : ◌≡◌ {A = ℕ} 0 1 = cc in absurd (omega arith)
-      go Stopped h f = let z : ◌≡◌ {A = ℕ} 0 1 = cc in absurd (omega arith)
+      go Quiet h f = cc
+      go Started h f = cc
+      go Stopped h f = cc
       go (Bit b) h f = one_deaf (deaf_is (get_or cs i d).chip.stage (sym p ∙ q)) b f
 
   -- the same in the code's words, with the size as it was asked for

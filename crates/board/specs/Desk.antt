@@ -1,8 +1,7 @@
 -- When the whole-bus run and the plain reading say no, and what both hand back (paper 01, "When the desk says no"). Assumes nothing.
 use Rattle.std.specs.Prelude.{ℕ, ◌*◌, Bool, true, not, ◌&&◌, List, [], ◌∷◌, eqb, ltb, length}
-use Rattle.lent.specs.Refusals.{no, ◌then◌}
+use Rattle.lent.specs.Refusals.{Answer, no, ◌then◌}
 use Rattle.lent.specs.Areas.{all_within}
-use Rattle.lent.specs.declared.Answer.{Answer}
 use Rattle.lines.specs.Levels.{most_held}
 use Rattle.orders.specs.Form.{transactions_of}
 use Rattle.orders.specs.Results.{area_of, check_of, list_number}

@@ -4,7 +4,6 @@ use Prim.Native.Nat.{ℕ, zero, suc}
 use mathlib.Core.Path.{◌≡◌, refl, ap, ap₂, ◌∙◌, subst}
 use mathlib.Core.Bool.{Bool, true, false, cond}
 use mathlib.Core.List.{List, [], ◌∷◌, map}
-use native.Mathlib.Omega.{arith}
 use Rattle.lines.specs.Levels.{byte_of}
 use Rattle.lines.specs.Events.{event_of, eye_after}
 use Rattle.lines.specs.declared.Lines.{Lines}
@@ -63,5 +62,5 @@ module _ (Q R : Plan) (asked : ℕ) (Alike : Control Q.State → Control R.State
           (cond r (record { last = e; row = [] }) (one_more R asked (lines_on R asked e) (run R asked n (tick R asked e))))
       go true true q h = record { last = s; row = refl }
       go false false q h = record { last = h.last; row = ap₂ (λ (l : Lines) (x : List ℕ). byte_of l ∷ x) (same_lines b e s) h.row }
-      go true false q h = let z : ◌≡◌ {A = ℕ} 0 1 = cc in absurd (omega arith)
-      go false true q h = let z : ◌≡◌ {A = ℕ} 0 1 = cc in absurd (omega arith)
+      go true false q h = cc
+      go false true q h = cc

@@ -5,6 +5,7 @@ use native.Mathlib.Omega.{arith}
 use mathlib.Core.Path.{◌≡◌, refl, ap, ◌∙◌}
 use mathlib.Core.Bool.{Bool, true, false}
 use mathlib.Core.List.{List}
+use Rattle.std.proofs.Common.{Ok}
 use lib.ListN.{length}
 use Rattle.lines.specs.Levels.{most_held}
 use Rattle.kinds.proofs.KindLaws.{few_data, few_asked, most_bytes_lem}
@@ -12,7 +13,6 @@ use Rattle.orders.specs.Form.{Message, Transaction, whole, message_at, transacti
 use Rattle.orders.specs.Bytes.{Bytes}
 use Rattle.orders.specs.Results.{check_of}
 use Rattle.orders.specs.Places.{Stands, ended, begins, follows}
-use Rattle.orders.specs.declared.Checked.TheVariants.{Accepted}
 use Rattle.orders.proofs.Stands.{holds}
 use Rattle.orders.proofs.WholeMessage.{message_inv}
 use Rattle.symbols.specs.Symbols.{is_over}
@@ -76,7 +76,7 @@ most_small {s} b (follows {p} {q} {m} {ms} {ts} i st) =
     let r = most_small b st in
     omega arith
 
-pub most_within : (list : List ℕ) (size : ℕ) → Bytes list → check_of list ≡ Accepted size → most_ticks (transactions_of list) ≤ limit
+pub most_within : (list : List ℕ) (size : ℕ) → Bytes list → check_of list ≡ Ok size → most_ticks (transactions_of list) ≤ limit
 unfolding clocked_of
 most_within list size b e =
     let o = holds list size e in

@@ -1,28 +1,30 @@
 -- The entry: the code's run over places is the rules' run over transactions, and what it leaves in the lent areas is what `wire_run` says; the ladder of
 -- refusals. Assumes nothing.
 use Prim.Native.Nat.{ℕ, zero, suc, ◌*◌, ◌≤◌, ◌<◌}
-use native.Mathlib.Omega.{arith}
 use mathlib.Core.Path.{◌≡◌, refl, ap, sym, ◌∙◌, subst}
 use mathlib.Core.Bool.{true}
 use mathlib.Core.List.{List, map}
+use Rattle.std.proofs.Common.{Ok, Err}
 use borrow.Author.Tests.{lt-ltb, le-ltb, ne_eqb}
 use lib.Count.{ones}
 use lib.Dec.{ltb}
 use lib.ListN.{length, get_or, take}
 use Rattle.lent.specs.Areas.{over}
-use Rattle.lent.specs.Refusals.{no, ◌then◌}
+use Rattle.lent.specs.Refusals.{no, ◌then◌, number_of, answer_of}
+use Rattle.lent.specs.declared.Refusal.{Refusal}
+use Rattle.lent.specs.declared.Refusal.TheVariants.{ListTooLong, ListBroken, LentLengths, StateOutOfRange, HoldTooLong, BusyTooLong, AreaTooSmall}
+use Rattle.lent.specs.declared.Refusal.TheVariants.{SampleOutOfRange, DrivesTooShort, NoSuchStrap}
 use Rattle.lines.specs.Events.{opened}
 use Rattle.lines.specs.declared.Lines.{Lines}
 use Rattle.lines.specs.declared.Eye.{Eye}
 use Rattle.kinds.specs.Kinds.{most_bytes}
 use Rattle.orders.specs.Form.{transactions_of}
 use Rattle.orders.specs.Bytes.{Bytes}
-use Rattle.orders.specs.Results.{area_of, batches, check_of, start_area}
+use Rattle.orders.specs.Results.{area_of, batches, check_of, refusal_of, start_area}
 use Rattle.orders.specs.Marks.{Log}
 use Rattle.orders.specs.Start.{started_of}
-use Rattle.orders.specs.declared.Break.{Break}
-use Rattle.orders.specs.declared.Checked.{Checked}
-use Rattle.orders.specs.declared.Checked.TheVariants.{Accepted, TooLong, Broken}
+use Rattle.orders.specs.declared.ListError.{ListError}
+use Rattle.orders.specs.declared.ListError.TheVariants.{TooLong, Broken}
 use Rattle.orders.proofs.Stands.{holds}
 use Rattle.orders.proofs.Starts.{starts}
 use Rattle.symbols.specs.Ticks.{Control, control_tick}
@@ -63,9 +65,11 @@ module _ (list : List ℕ) (size marks : ℕ) (memory states held : List ℕ) (a
   pub no_number : bus_number list marks memory states held asked results ≡ 0
   unfolding bus_number
   no_number =
-      rw (fine.right, fine.board) (ap (no 7) (le-ltb (length results) (area_of (transactions_of list)) (subst (λ (n : ℕ). n ≤ length results) (holds list size fine.right).area fine.room)))
+      rw (fine.right, fine.board)
+      (ap (no 7) (le-ltb (length results) (area_of (transactions_of list)) (subst (λ (n : ℕ). n ≤ length results) (holds list size fine.right).area fine.room)))
 
-  module _ (bytes : (i : ℕ) → get_or list i 0 < 256) (byte : marks < 256) (seats : List Seat) (loaded : take (ones marks) seats ≡ seats_from marks states 8 0) (eight : length seats ≡ 8) where
+  module _ (bytes : (i : ℕ) → get_or list i 0 < 256) (byte : marks < 256) (seats : List Seat) (loaded : take (ones marks) seats ≡ seats_from marks states 8 0)
+      (eight : length seats ≡ 8) where
     few : ones marks ≤ length seats
     few = rw eight (few_chips marks byte)
 
@@ -100,9 +104,11 @@ module _ (list : List ℕ) (size marks : ℕ) (memory states held : List ℕ) (a
         let l : Log = record { area = start_area (transactions_of list) results } in
         rw (starts list size results fine.right fine.room)
         (begun_matches (places list) orders (Same list short) (asks_same list short) (nexts_same list short) (fails_same list short)
-        (record { cursor = opens_at list 0 0; log = l }) (opens (batches 0 (transactions_of list)) l) (starts_same list short (transactions_of list) (holds list size fine.right).stands l))
+        (record { cursor = opens_at list 0 0; log = l }) (opens (batches 0 (transactions_of list)) l)
+        (starts_same list short (transactions_of list) (holds list size fine.right).stands l))
 
-    same : alike.SameRun (places list) orders asked Alike (λ c d m. m.phase) (λ c d m. m.was) ticks_alike (run (places list) asked limit begins) (run orders asked limit rules)
+    same : alike.SameRun (places list) orders asked Alike (λ c d m. m.phase) (λ c d m. m.was) ticks_alike
+        (run (places list) asked limit begins) (run orders asked limit rules)
     unfolding begins rules
     same =
         alike.same_run (places list) orders asked Alike (λ c d m. m.phase) (λ c d m. m.was) ticks_alike limit begins rules
@@ -115,7 +121,8 @@ module _ (list : List ℕ) (size marks : ℕ) (memory states held : List ℕ) (a
     enough : run orders asked limit rules ≡ run orders asked (most_ticks (transactions_of list)) rules
     unfolding rules
     enough =
-        run_enough orders asked (most_ticks (transactions_of list)) limit rules (over_in_time asked (most_ticks (transactions_of list)) rules (first_left list size results fine.right))
+        run_enough orders asked (most_ticks (transactions_of list)) limit rules
+        (over_in_time asked (most_ticks (transactions_of list)) rules (first_left list size results fine.right))
         (most_within list size are_bytes fine.right)
 
     -- what is left in the lent areas is what the rules say
@@ -135,71 +142,73 @@ module _ (list : List ℕ) (size marks : ℕ) (memory states held : List ℕ) (a
         ∙ ap (λ (x : Ran orders asked). x.last.control.plan.context.log.area) enough in
         let room : ones marks ≤ length after = rw eight' (few_chips marks byte) in
         rw no_number
-        (put_together t (length r.row) memory' (memories r.last.chips) states' (state_row r.last.chips) results' r.last.control.plan.context.log.area trace' (over r.row trace)
+        (put_together t (length r.row) memory' (memories r.last.chips) states' (state_row r.last.chips) results' r.last.control.plan.context.log.area
+        trace' (over r.row trace)
         (w.ticks_is ∙ ap length row) (sym (all_together t (ones marks) after memory' room fits) ∙ ap memories chips)
         (saved ∙ sym (seat_row_lem t (ones marks) after memory') ∙ ap state_row chips) area (w.trace_is ∙ ap (λ (x : List ℕ). over x trace) row))
       where
         put_together : (t u : ℕ) (a b c d e f g h : List ℕ) → t ≡ u → a ≡ b → c ≡ d → e ≡ f → g ≡ h
-            → ◌≡◌ {A = Traced} (traced (record { number = 0; ticks = t }) a c e g) (record { outcome = record { answer = record { number = 0; ticks = u }; memory = b; states = d; results = f }; trace = h })
+            → ◌≡◌ {A = Traced} (traced (record { number = 0; ticks = t }) a c e g)
+            (record { outcome = record { answer = record { number = 0; ticks = u }; memory = b; states = d; results = f }; trace = h })
         put_together t u a b c d e f g h p q r s v = rw (p, q, r, s, v)
 
     -- the same in the code's words
     module _ (n : ℕ) (count : n ≡ ones marks) where
-      pub loop_asks : (n ≤ 8) × (length memory ≡ offset n seats) × (true ≡ all_up (seated n seats memory))
-      loop_asks = rw count (few_chips marks byte, memory_parts, all_deaf)
+      pub loop_asks : (length memory ≡ offset n seats) × (true ≡ all_up (seated n seats memory))
+      loop_asks = rw count (memory_parts, all_deaf)
 
-      pub save_asks : (states' : List ℕ) → length states' ≡ length states → (n ≤ 8) × (length states' ≡ 4 * n)
-      save_asks states' e = rw count (few_chips marks byte, e ∙ state_bytes_lem)
+      pub save_asks : (k : ℕ) → k ≡ n → length states ≡ 4 * k
+      save_asks k e = rw (e, count) state_bytes_lem
 
       pub wires_so : (started : List ℕ) (control : Controller) (eye : Eye) (b : Bus) (after : List Seat) (memory' states' results' trace' : List ℕ) (t : ℕ)
           → started ≡ started_of list size results → control ≡ first_of list → eye ≡ opened
-          → Went list asked (bus_on held (record { control = control; hold = record { left = 0; next = 0 }; eye = eye; up = true }) (seated n seats memory) started 0) trace
+          → Went list asked
+          (bus_on held (record { control = control; hold = record { left = 0; next = 0 }; eye = eye; up = true }) (seated n seats memory) started 0) trace
           (bus_on held b (seated n after memory') results' t) t trace'
           → length memory' ≡ offset n after → length after ≡ 8 → states' ≡ seat_row t n after
           → traced (record { number = 0; ticks = t }) memory' states' results' trace' ≡ wire_run list marks memory states held asked results trace
       wires_so started control eye b after memory' states' results' trace' t p q r w fits eight' saved =
-          went_so b after memory' states' results' trace' t
-          (subst (λ (k : ℕ). Went list asked (bus_on held (first_bus list) (seated k seats memory) (started_of list size results) 0) trace (bus_on held b (seated k after memory') results' t) t trace') count
-          (subst (λ (e : Eye). Went list asked (bus_on held (record { control = first_of list; hold = record { left = 0; next = 0 }; eye = e; up = true }) (seated n seats memory) (started_of list size results) 0) trace (bus_on held b (seated n after memory') results' t) t trace') r
-          (subst (λ (k : Controller). Went list asked (bus_on held (record { control = k; hold = record { left = 0; next = 0 }; eye = eye; up = true }) (seated n seats memory) (started_of list size results) 0) trace (bus_on held b (seated n after memory') results' t) t trace') q
-          (subst (λ (l : List ℕ). Went list asked (bus_on held (record { control = control; hold = record { left = 0; next = 0 }; eye = eye; up = true }) (seated n seats memory) l 0) trace (bus_on held b (seated n after memory') results' t) t trace') p w))))
-          (subst (λ (k : ℕ). length memory' ≡ offset k after) count fits) eight' (saved ∙ ap (λ (k : ℕ). seat_row t k after) count)
+          went_so b after memory' states' results' trace' t (rw (p, q, r, count) at w) (rw count at fits) eight' (rw count at saved)
 
 -- the ladder
+over_0 : (r : Refusal) → number_of r ≡ 0 → ⊥
+over_0 ListTooLong e = cc
+over_0 ListBroken e = cc
+over_0 LentLengths e = cc
+over_0 StateOutOfRange e = cc
+over_0 HoldTooLong e = cc
+over_0 BusyTooLong e = cc
+over_0 AreaTooSmall e = cc
+over_0 SampleOutOfRange e = cc
+over_0 DrivesTooShort e = cc
+over_0 NoSuchStrap e = cc
+
 module _ (list : List ℕ) (marks : ℕ) (memory states held : List ℕ) (asked : ℕ) (results trace : List ℕ) where
-  turned_down_lem : (n : ℕ) → bus_number list marks memory states held asked results ≡ n → (n ≡ 0 → ⊥)
-      → traced (record { number = n; ticks = 0 }) memory states results trace ≡ wire_run list marks memory states held asked results trace
+  turned_down_lem : (r : Refusal) → bus_number list marks memory states held asked results ≡ number_of r
+      → traced (answer_of (Err r)) memory states results trace ≡ wire_run list marks memory states held asked results trace
   unfolding wire_run
-  turned_down_lem n e z = rw (e, ne_eqb n 0 z)
+  turned_down_lem r e = rw (e, ne_eqb (number_of r) 0 (over_0 r))
 
-  module _ (x : Checked) (checked : x ≡ check_of list) where
-    pub number_1 : x ≡ TooLong → traced (record { number = 1; ticks = 0 }) memory states results trace ≡ wire_run list marks memory states held asked results trace
+  pub list_refused : (e : ListError) → Err e ≡ check_of list
+      → traced (answer_of (Err (refusal_of e))) memory states results trace ≡ wire_run list marks memory states held asked results trace
+  unfolding bus_number
+  list_refused TooLong h = turned_down_lem ListTooLong (rw (← h))
+  list_refused (Broken b) h = turned_down_lem ListBroken (rw (← h))
+
+  module _ (size : ℕ) (right : Ok size ≡ check_of list) where
+    pub board_refused : (r : Refusal) → number_of r ≡ board_number marks memory states held asked
+        → traced (answer_of (Err r)) memory states results trace ≡ wire_run list marks memory states held asked results trace
     unfolding bus_number
-    number_1 e = let c : check_of list ≡ TooLong = sym checked ∙ e in turned_down_lem 1 (rw c) (λ z. omega arith)
+    board_refused r said =
+        turned_down_lem r (rw (← right, ← said) (first_said (number_of r) (no 7 (ltb (length results) (area_of (transactions_of list)))) (over_0 r)))
+      where
+        first_said : (n m : ℕ) → (n ≡ 0 → ⊥) → n then m ≡ n
+        first_said zero m z = absurd (z refl)
+        first_said (suc n) m z = refl
 
-    pub number_2 : (b : Break) → x ≡ Broken b
-        → traced (record { number = 2; ticks = 0 }) memory states results trace ≡ wire_run list marks memory states held asked results trace
+    pub area_refused : 0 ≡ board_number marks memory states held asked → length results < size
+        → traced (answer_of (Err AreaTooSmall)) memory states results trace ≡ wire_run list marks memory states held asked results trace
     unfolding bus_number
-    number_2 b e = let c : check_of list ≡ Broken b = sym checked ∙ e in turned_down_lem 2 (rw c) (λ z. omega arith)
-
-    module _ (size : ℕ) (right : x ≡ Accepted size) (n : ℕ) (said : n ≡ board_number marks memory states held asked) where
-      listed : check_of list ≡ Accepted size
-      listed = sym checked ∙ right
-
-      pub number_3_to_6 : (n ≡ 0 → ⊥) → traced (record { number = n; ticks = 0 }) memory states results trace ≡ wire_run list marks memory states held asked results trace
-      unfolding bus_number
-      number_3_to_6 z = turned_down_lem n (rw (listed, ← said) (first_said n (no 7 (ltb (length results) (area_of (transactions_of list)))) z)) z
-        where
-          first_said : (n m : ℕ) → (n ≡ 0 → ⊥) → n then m ≡ n
-          first_said zero m z = absurd (z refl)
-          first_said (suc n) m z = refl
-
-      pub number_7 : n ≡ 0 → length results < size
-          → traced (record { number = 7; ticks = 0 }) memory states results trace ≡ wire_run list marks memory states held asked results trace
-      unfolding bus_number
-      number_7 z l =
-          let a : length results < area_of (transactions_of list) = subst (λ (k : ℕ). length results < k) (holds list size listed).area l in
-          turned_down_lem 7 (rw (listed, ← said, z, lt-ltb (length results) (area_of (transactions_of list)) a)) (λ z. omega arith)
-
-      pub fine_so : n ≡ 0 → size ≤ length results → Fine list size marks memory states held asked results
-      fine_so z l = record { right = listed; board = sym said ∙ z; room = l }
+    area_refused said l =
+        let a : length results < area_of (transactions_of list) = subst (λ (k : ℕ). length results < k) (holds list size (sym right)).area l in
+        turned_down_lem AreaTooSmall (rw (← right, ← said, lt-ltb (length results) (area_of (transactions_of list)) a))

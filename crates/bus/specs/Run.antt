@@ -1,7 +1,7 @@
 -- The entry "whole-bus run": what comes out, all of it, by the tick rules (paper 01, "Ticks and symbols", "When the desk says no"). Assumes nothing.
 use Rattle.std.specs.Prelude.{ℕ, cond, List, eqb, length}
 use Rattle.lent.specs.Areas.{over}
-use Rattle.lent.specs.declared.Answer.{Answer}
+use Rattle.lent.specs.Refusals.{Answer}
 use Rattle.lines.specs.Events.{opened}
 use Rattle.orders.specs.Form.{transactions_of}
 use Rattle.controller.specs.Plan.{State, orders}

@@ -7,6 +7,7 @@ use mathlib.Core.List.{List, [], ◌∷◌}
 use native.Mathlib.Omega.{arith}
 use borrow.Author.Tests.{leb-false}
 use lib.Dec.{leb}
+use Rattle.std.proofs.Common.{Option, Some, None, Ok}
 use lib.ListN.{length, take, drop, length-take, length-drop}
 use Rattle.lines.specs.Levels.{released, lines_of, most_held}
 use Rattle.lines.specs.Records.{walk}
@@ -19,18 +20,16 @@ use Rattle.orders.specs.Places.{Stands, ended, begins, follows}
 use Rattle.orders.specs.Asking.{Order, put, get, order_of}
 use Rattle.orders.specs.Results.{Slotted, Batch, slots_of, slots_of_all, slotted, batches, start_area, check_of}
 use Rattle.orders.specs.Marks.{Log}
-use Rattle.orders.specs.declared.Checked.TheVariants.{Accepted}
 use Rattle.orders.proofs.WholeMessage.{message_inv}
 use Rattle.orders.proofs.Stands.{holds}
 use Rattle.symbols.specs.Symbols.{drives, is_over}
-use Rattle.symbols.specs.Faults.{is_first, is_taken, is_stuck, fault_of, is_clear}
-use Rattle.symbols.specs.Ticks.{enter, Control, move, control_tick}
+use Rattle.symbols.specs.Faults.{is_first, is_taken, is_stuck, fault_of}
+use Rattle.symbols.specs.Ticks.{enter, Control, move, settle, control_tick}
 use Rattle.symbols.specs.declared.Symbol.{Symbol}
 use Rattle.symbols.specs.declared.Fault.{Fault}
-use Rattle.symbols.specs.declared.Fault.TheVariants.{Clear}
 use Rattle.symbols.specs.declared.Phase.{Phase}
 use Rattle.symbols.specs.declared.Phase.TheVariants.{Over, Waiting, Zero, One, Two, Three}
-use Rattle.symbols.proofs.Moves.{clear_free, clear_running, clear_is}
+use Rattle.symbols.proofs.Moves.{clear_free, clear_running}
 use Rattle.controller.specs.Plan.{Job, opening, reopening, closing, finished, addressing, addressed, writing, wrote, reading, answering, Context, State, asks, does, go_on, refused, writes, reads, carries, opens, step, orders}
 use Rattle.controller.specs.Bound.{clocked_of, most_ticks}
 use Rattle.controller.specs.Alone.{party, at_first}
@@ -221,7 +220,7 @@ module _ (l : Lines) (p : Bool) (s : State) where
       go false d true e f r = absurd (true≢false f)
       go false d false e f r = let h : n < most_held = leb-false most_held n r in rw e (omega arith)
 
-  moves_fall : (ph : Phase) → is_over ph ≡ false → fault_of ph p l ≡ Clear → left_of (move orders ph l (at ph)) < left_in ph s
+  moves_fall : (ph : Phase) → is_over ph ≡ false → fault_of ph p l ≡ None → left_of (move orders ph l (at ph)) < left_in ph s
   unfolding left_of
   moves_fall (Over f) h c = absurd (true≢false h)
   moves_fall (Waiting zero) h c = omega arith
@@ -236,12 +235,11 @@ module _ (l : Lines) (p : Bool) (s : State) where
 
   tick_falls : (ph : Phase) → is_over ph ≡ false → left_of (control_tick orders l (at ph)) < left_in ph s
   unfolding control_tick left_of
-  tick_falls ph h = go (fault_of ph p l) (is_clear (fault_of ph p l)) refl refl
+  tick_falls ph h = go (fault_of ph p l) refl
     where
-      go : (f : Fault) (b : Bool) → f ≡ fault_of ph p l → b ≡ is_clear f
-          → left_of (cond b (move orders ph l (at ph)) (record { phase = Over f; was = true; plan = orders.failed s f })) < left_in ph s
-      go f true e k = moves_fall ph h (sym e ∙ clear_is f true k refl)
-      go f false e k = some_left ph s h
+      go : (f : Option Fault) → f ≡ fault_of ph p l → left_of (settle orders f l (at ph)) < left_in ph s
+      go None e = moves_fall ph h (sym e)
+      go (Some f) e = some_left ph s h
 
 -- in every tick before its end, whatever the lines are
 pub falls : (l : Lines) (c : Control State) → is_over c.phase ≡ false → left_of (control_tick orders l c) < left_of c
@@ -327,7 +325,7 @@ later_bound top (t ∷ ts) f =
     omega arith
 
 -- at the first transaction of an accepted list
-pub first_left : (list : List ℕ) (size : ℕ) (lent : List ℕ) → check_of list ≡ Accepted size → left_of (at_first list lent) ≤ most_ticks (transactions_of list)
+pub first_left : (list : List ℕ) (size : ℕ) (lent : List ℕ) → check_of list ≡ Ok size → left_of (at_first list lent) ≤ most_ticks (transactions_of list)
 unfolding left_of
 first_left list size lent e =
     let s : State = opens (batches 0 (transactions_of list)) (record { area = start_area (transactions_of list) lent }) in
@@ -337,6 +335,6 @@ first_left list size lent e =
     rw (asked_most s.job s.context) (omega arith)
 
 -- whatever is sampled, a record of so many ticks is enough
-pub over_by : (list samples lent : List ℕ) (size : ℕ) → check_of list ≡ Accepted size → most_ticks (transactions_of list) ≤ length samples
+pub over_by : (list samples lent : List ℕ) (size : ℕ) → check_of list ≡ Ok size → most_ticks (transactions_of list) ≤ length samples
     → is_over (walk (party orders) samples (at_first list lent)).phase ≡ true
 over_by list samples lent size e h = let f = first_left list size lent e in ends samples (at_first list lent) (omega arith)

@@ -1,14 +1,15 @@
 -- Two plans that ask alike, step by step, make two controllers that drive alike, tick by tick, whatever the lines are. Assumes nothing.
 use Prim.Native.Nat.{ℕ, zero, suc}
 use mathlib.Core.Path.{◌≡◌, refl, ap, ap₂, sym}
-use mathlib.Core.Bool.{Bool, true, false, cond, true≢false}
+use mathlib.Core.Bool.{Bool, true, false, true≢false}
+use Rattle.std.proofs.Common.{Option, Some, None}
 use mathlib.Core.List.{List, [], ◌∷◌, ◌++◌}
-use Rattle.lines.specs.Levels.{hi, byte_of, lines_of}
+use Rattle.lines.specs.Levels.{byte_of, lines_of}
 use Rattle.lines.specs.Records.{walk, driven, drives_on}
 use Rattle.lines.specs.declared.Lines.{Lines}
 use Rattle.symbols.specs.Symbols.{row, drives, is_over}
-use Rattle.symbols.specs.Faults.{fault_of, is_clear}
-use Rattle.symbols.specs.Ticks.{Plan, enter, Control, begun, move, control_tick}
+use Rattle.symbols.specs.Faults.{fault_of}
+use Rattle.symbols.specs.Ticks.{Plan, enter, Control, begun, move, settle, control_tick}
 use Rattle.symbols.specs.declared.Fault.{Fault}
 use Rattle.symbols.specs.declared.Phase.{Phase}
 use Rattle.symbols.specs.declared.Phase.TheVariants.{Over, Waiting, Zero, One, Two, Three}
@@ -20,8 +21,8 @@ module _ (Q R : Plan) (Same : Q.State → R.State → Type 0) where
     pub was : c.was ≡ d.was
     pub plan : Same c.plan d.plan
 
-abbrev over : (Q : Plan) → Fault → Control Q.State → Control Q.State
-over Q f c = record { phase = Over f; was = hi; plan = Q.failed c.plan f }
+abbrev standing : (Q : Plan) → Phase → Control Q.State → Control Q.State
+standing Q ph c = record { phase = ph; was = c.was; plan = c.plan }
 
 module _ (Q R : Plan) (Same : Q.State → R.State → Type 0)
     (asks : (s : Q.State) (t : R.State) → Same s t → Q.ask s ≡ R.ask t)
@@ -31,7 +32,7 @@ module _ (Q R : Plan) (Same : Q.State → R.State → Type 0)
   begun_matches s t e = record { phase = ap enter (asks s t e); was = refl; plan = e }
 
   module _ (l : Lines) (c : Control Q.State) (d : Control R.State) (m : Matches Q R Same c d) where
-    move_matches : (ph : Phase) → Matches Q R Same (move Q ph l c) (move R ph l d)
+    move_matches : (ph : Phase) → Matches Q R Same (move Q ph l (standing Q ph c)) (move R ph l (standing R ph d))
     move_matches (Over f) = record { phase = refl; was = m.was; plan = m.plan }
     move_matches (Waiting zero) = record { phase = refl; was = m.was; plan = m.plan }
     move_matches (Waiting (suc n)) = record { phase = refl; was = m.was; plan = m.plan }
@@ -42,19 +43,17 @@ module _ (Q R : Plan) (Same : Q.State → R.State → Type 0)
         let n = nexts c.plan d.plan l.sda m.plan in
         record { phase = ap enter (asks _ _ n); was = ap (λ (p : Bool). (row s p).three.sda) m.was; plan = n }
 
-    settle_matches : (f : Fault) (b : Bool) (ph : Phase)
-        → Matches Q R Same (cond b (move Q ph l c) (over Q f c)) (cond b (move R ph l d) (over R f d))
-    settle_matches f true ph = move_matches ph
-    settle_matches f false ph = record { phase = refl; was = refl; plan = fails c.plan d.plan f m.plan }
+    settle_matches : (f : Option Fault) (ph : Phase) → Matches Q R Same (settle Q f l (standing Q ph c)) (settle R f l (standing R ph d))
+    settle_matches None ph = move_matches ph
+    settle_matches (Some f) ph = record { phase = refl; was = refl; plan = fails c.plan d.plan f m.plan }
 
     pub tick_matches : Matches Q R Same (control_tick Q l c) (control_tick R l d)
     unfolding control_tick
     tick_matches = go c.phase c.was m.phase m.was
       where
         go : (ph : Phase) (p : Bool) → ph ≡ d.phase → p ≡ d.was
-            → Matches Q R Same (cond (is_clear (fault_of ph p l)) (move Q ph l c) (over Q (fault_of ph p l) c))
-            (cond (is_clear (fault_of d.phase d.was l)) (move R d.phase l d) (over R (fault_of d.phase d.was l) d))
-        go ph p e f = rw (e, f) (settle_matches (fault_of d.phase d.was l) (is_clear (fault_of d.phase d.was l)) d.phase)
+            → Matches Q R Same (settle Q (fault_of ph p l) l (standing Q ph c)) (settle R (fault_of d.phase d.was l) l d)
+        go ph p e f = rw (e, f) (settle_matches (fault_of d.phase d.was l) d.phase)
 
   -- on a record: the last states match, and the drives are the same
   pub walk_matches : (xs : List ℕ) (c : Control Q.State) (d : Control R.State) → Matches Q R Same c d

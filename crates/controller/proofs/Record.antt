@@ -3,6 +3,7 @@ use Prim.Native.Nat.{ℕ, ◌+◌, ◌<◌, ◌≤◌}
 use mathlib.Core.Path.{◌≡◌, refl, ap, sym, ◌∙◌}
 use mathlib.Core.Bool.{Bool, true, false}
 use mathlib.Core.List.{List, [], ◌∷◌}
+use native.Mathlib.Omega.{arith}
 use lib.ListN.{length, get_or, set}
 use Rattle.lines.specs.Levels.{byte_of, lines_of}
 use Rattle.lines.specs.Records.{walk}
@@ -10,15 +11,12 @@ use Rattle.lines.specs.declared.Lines.{Lines}
 use Rattle.lines.proofs.Records.{Left, leaves, from_first, one_tick, at_end, ended_early}
 use Rattle.symbols.specs.Symbols.{drives, is_over}
 use Rattle.symbols.specs.Ticks.{Plan, Control, control_tick}
-use Rattle.symbols.specs.declared.Fault.{Fault}
-use Rattle.symbols.specs.declared.Phase.{Phase}
-use Rattle.symbols.specs.declared.Phase.TheVariants.{Over}
 use Rattle.symbols.proofs.Moves.{stays}
 use Rattle.cursor.specs.Cursor.{Spot, places}
 use Rattle.controller.specs.Inside.{control_of, first_of, ran_on}
-use Rattle.controller.specs.Alone.{party, end_of, Alone}
+use Rattle.controller.specs.Alone.{party, end_of, end_told, Alone}
 use Rattle.controller.specs.declared.Controller.{Controller}
-use Rattle.controller.specs.declared.End.{End}
+use Rattle.controller.specs.declared.End.{End as EndOfRun}
 
 -- at its end a controller changes nothing, whatever the plan
 module _ (Q : Plan) where
@@ -55,19 +53,17 @@ module _ (list : List ℕ) where
         ap came (one_tick (party (places list)) t samples (control_of c a) (control_of c' a') ds ds' (sym oe ∙ of) moved put h) ∙ so_far
 
     -- at its end, and at the record's end
-    pub ends_over : (e : End) (o : Bool) → o ≡ is_over c.phase → o ≡ true → e ≡ end_of c.phase
-        → ◌≡◌ {A = Alone} (record { told = record { number = 0; end = e; ticks = t }; drives = ds; results = a }) r
+    pub ends_over : (e : EndOfRun) (o : Bool) → o ≡ is_over c.phase → o ≡ true → end_told e ≡ end_of c.phase
+        → ◌≡◌ {A = Alone} (record { told = record { number = 0; end = end_told e; ticks = t }; drives = ds; results = a }) r
     unfolding onward
     ends_over e o oe ot ee =
         let y : is_over c.phase ≡ true = sym oe ∙ ot in
         let s = ended_early (party (places list)) (control_of c a) y (λ l. stays (places list) l (control_of c a) y) t samples ds in
         rw ee (ap came (sym s) ∙ so_far)
 
-    pub ends_record : (e : End) → length samples ≤ t → e ≡ end_of c.phase
-        → ◌≡◌ {A = Alone} (record { told = record { number = 0; end = e; ticks = t }; drives = ds; results = a }) r
+    pub ends_record : (e : EndOfRun) → t ≤ length samples → length samples ≤ t → end_told e ≡ end_of c.phase
+        → ◌≡◌ {A = Alone} (record { told = record { number = 0; end = end_told e; ticks = length samples }; drives = ds; results = a }) r
     unfolding onward
-    ends_record e h ee = rw ee (ap came (sym (at_end (party (places list)) t samples (control_of c a) ds h)) ∙ so_far)
-
--- how a run that stands in a phase has ended
-pub end_is : (ph : Phase) (f g : Fault) (r : End) → ph ≡ Over f → f ≡ g → r ≡ end_of (Over g) → r ≡ end_of ph
-end_is ph f g r e k h = rw (e, k) h
+    ends_record e h k ee =
+        let l : t ≡ length samples = omega arith in
+        rw (← l, ee) (ap came (sym (at_end (party (places list)) t samples (control_of c a) ds k)) ∙ so_far)

@@ -1,31 +1,51 @@
 -- The entry "controller alone": its refusals in its order, and all that comes out (paper 01, "When the desk says no"). Assumes nothing.
-use Rattle.std.specs.Prelude.{ℕ, cond, List, eqb, ltb, length}
+use Rattle.std.specs.Prelude.{ℕ, cond, List, eqb, ltb, length, Some, None, Result, Ok, Err}
 use Rattle.lent.specs.Areas.{over}
-use Rattle.lent.specs.Refusals.{no, ◌then◌}
+use Rattle.lent.specs.Refusals.{no, ◌then◌, number_of}
+use Rattle.lent.specs.declared.Refusal.{Refusal}
 use Rattle.lines.specs.Records.{Party, walk, drives_on, bad_sample}
 use Rattle.orders.specs.Form.{transactions_of}
 use Rattle.orders.specs.Results.{area_of, start_area, batches, check_of, list_number}
 use Rattle.symbols.specs.Symbols.{drives, is_over}
 use Rattle.symbols.specs.Ticks.{Plan, Control, begun, control_tick}
-use Rattle.symbols.specs.declared.Fault.TheVariants.{Clear, DataLost, ClockStuck, Undefined, NotFree, LineBroken}
+use Rattle.symbols.specs.declared.Fault.{Fault}
 use Rattle.symbols.specs.declared.Phase.{Phase}
 use Rattle.symbols.specs.declared.Phase.TheVariants.{Over, Waiting, Zero, One, Two, Three}
 use Rattle.controller.specs.Plan.{State, orders, opens}
-use Rattle.controller.specs.declared.End.{End}
-use Rattle.controller.specs.declared.End.TheVariants.{Refused, ListEnd, Faulted, RecordEnd}
-use Rattle.controller.specs.declared.Told.{Told}
+use Rattle.controller.specs.declared.End.{End as EndOfRun}
+use Rattle.controller.specs.declared.End.TheVariants.{ListEnd as list_end, Faulted as faulted, RecordEnd as record_end}
+use Rattle.controller.specs.declared.Told.{Told as ToldOfRun}
 
 abbrev pub party : (Q : Plan) → Party
 party Q = record { State = Control Q.State; ended = λ c. is_over c.phase; drive = λ c. drives c.phase c.was; tick = control_tick Q }
 
+-- how a call ended
+pub data End : Type 0 where
+  Refused : End
+  ListEnd : End
+  Faulted : Fault → End
+  RecordEnd : End
+
+-- what is told of a call: 0 or the number of its refusal, its end, its ticks
+pub record Told : Type 0 where
+  pub number : ℕ
+  pub end : End
+  pub ticks : ℕ
+
+-- the same of the code's answers
+abbrev pub end_told : EndOfRun → End
+end_told list_end = ListEnd
+end_told (faulted f) = Faulted f
+end_told record_end = RecordEnd
+
+abbrev pub told_of : Result ToldOfRun Refusal → Told
+told_of (Ok t) = record { number = 0; end = end_told t.end; ticks = t.ticks }
+told_of (Err r) = record { number = number_of r; end = Refused; ticks = 0 }
+
 -- the record's end only if neither other holds
 abbrev pub end_of : Phase → End
-end_of (Over Clear) = ListEnd
-end_of (Over DataLost) = Faulted DataLost
-end_of (Over ClockStuck) = Faulted ClockStuck
-end_of (Over Undefined) = Faulted Undefined
-end_of (Over NotFree) = Faulted NotFree
-end_of (Over LineBroken) = Faulted LineBroken
+end_of (Over None) = ListEnd
+end_of (Over (Some f)) = Faulted f
 end_of (Waiting n) = RecordEnd
 end_of (Zero s) = RecordEnd
 end_of (One s) = RecordEnd

@@ -1,5 +1,5 @@
 -- Inside: the code's state in the words of the tick rules, and its run over a record; no entry cites it. Assumes nothing.
-use Rattle.std.specs.Prelude.{ℕ, List, length}
+use Rattle.std.specs.Prelude.{List, ℕ, length}
 use Rattle.lent.specs.Areas.{over}
 use Rattle.lines.specs.Levels.{hi}
 use Rattle.lines.specs.Records.{walk, drives_on}
@@ -7,8 +7,6 @@ use Rattle.symbols.specs.Ticks.{enter, Control}
 use Rattle.cursor.specs.Cursor.{opens_at, ask_of, Spot, places}
 use Rattle.controller.specs.Alone.{party, end_of, Alone}
 use Rattle.controller.specs.declared.Controller.{Controller}
-use Rattle.controller.specs.declared.End.TheVariants.{Refused}
-use Rattle.controller.specs.declared.Told.{Told}
 
 -- the code's state and the result area, in the words of the tick rules
 abbrev pub control_of : Controller → List ℕ → Control Spot
@@ -27,6 +25,3 @@ ran_on list drives samples c =
       drives = over row drives;
       results = last.plan.log.area;
     }
-
-abbrev pub refused_as : ℕ → Told
-refused_as n = record { number = n; end = Refused; ticks = 0 }

@@ -1,14 +1,14 @@
 // Where the end of a symbol takes the cursor, what it notes, and which symbol comes next.
-ghost use Rattle.std.specs.Prelude.{◌≡◌, ◌+◌, ◌-◌, ◌%◌};
+ghost use Rattle.std.specs.Prelude.{◌≡◌, ◌+◌};
 ghost use Rattle.symbols.specs.Ticks.{enter};
 ghost use Rattle.cursor.specs.Cursor.{acts, carries_on, nowhere, address_at, data_at, passed, passed_all, goes_on, refused_by, puts_on, gets_on, carries_out, opens_at, step_of, note_of, ask_of};
 
 use crate::{Act, Cursor};
-use kinds::{Quota, is_critical, is_write, one_less, quota_of};
+use kinds::{Quota, is_critical, is_write, quota_of};
 use lent::{byte_at, put_at};
 use lines::{bit_at, shifted};
 use orders::{room_at, size_at};
-use symbols::{Begin, Fault, Phase, Symbol};
+use symbols::{Begin, Phase, Symbol};
 
 // Places are kept modulo this; the places of an accepted list are far below it.
 const WRAP: usize = 4294967296;
@@ -17,15 +17,7 @@ impl Cursor {
     fn acts(self, act: Act) -> Cursor
         ensures { result ≡ acts act self }
     {
-        Cursor {
-            act,
-            at: self.at,
-            left: self.left,
-            slot: self.slot,
-            top: self.top,
-            count: self.count,
-            more: self.more,
-        }
+        Cursor { act, ..self }
     }
 
     fn carries_on(self, act: Act, count: u8, more: u8) -> Cursor
@@ -33,12 +25,9 @@ impl Cursor {
     {
         Cursor {
             act,
-            at: self.at,
-            left: self.left,
-            slot: self.slot,
-            top: self.top,
             count,
             more,
+            ..self
         }
     }
 
@@ -57,44 +46,45 @@ impl Cursor {
     }
 
     // On to the message after this one.
-    fn passed(mut self, list: &[u8]) -> Cursor
+    #[tactic(auto, unfolding(crate::specs::Cursor::wrap))]
+    fn passed(self, list: &[u8]) -> Cursor
         ensures { result ≡ passed list.now self }
     {
-        let at = self.at;
-        let size = size_at(list, at);
-        let room = room_at(list, at);
-        self.at = ((at as usize + size) % WRAP) as u32;
-        self.slot = ((self.slot as usize + room) % WRAP) as u32;
-        self.left = one_less(self.left);
-        self
+        let size = size_at(list, self.at);
+        let room = room_at(list, self.at);
+        Cursor {
+            at: ((self.at as usize + size) % WRAP) as u32,
+            left: self.left.saturating_sub(1),
+            slot: ((self.slot as usize + room) % WRAP) as u32,
+            ..self
+        }
     }
 
     // Over the message under way and those after it: a refused one leaves them unsent, and their slots as they are.
     fn passed_all(self, list: &[u8]) -> Cursor
         ensures { result ≡ passed_all list.now (self.left + 1) self }
     {
-        let mut c = self;
-        let mut n = self.left as usize + 1;
-        while 0 < n {
-            c = c.passed(list);
-            n = n - 1;
+        let mut cursor = self;
+        for _ in 0..=self.left {
+            cursor = cursor.passed(list);
         }
-        c
+        cursor
     }
 
     // The message is over: a repeated START and the next one, or STOP.
+    #[tactic(auto, unfolding(crate::specs::Cursor::goes_on))]
     fn goes_on(self, list: &[u8]) -> Cursor
         ensures { result ≡ goes_on list.now self }
     {
         if self.left == 0 {
             self.acts(Act::Closes)
         } else {
-            let c = self.passed(list);
-            c.acts(Act::Reopens)
+            self.passed(list).acts(Act::Reopens)
         }
     }
 
     // After a 1: a critical message ends the transaction, a non-critical one lets the next follow.
+    #[tactic(auto, unfolding(crate::specs::Cursor::refused_by))]
     fn refused_by(self, list: &[u8]) -> Cursor
         ensures { result ≡ refused_by list.now self }
     {
@@ -105,6 +95,7 @@ impl Cursor {
         }
     }
 
+    #[tactic(auto, unfolding(crate::specs::Cursor::puts_on))]
     fn puts_on(self, list: &[u8], n: u8, count: u8) -> Cursor
         ensures { result ≡ puts_on list.now n count self }
     {
@@ -115,6 +106,7 @@ impl Cursor {
         }
     }
 
+    #[tactic(auto, unfolding(crate::specs::Cursor::gets_on))]
     fn gets_on(self, list: &[u8], n: u8, quota: Quota) -> Cursor
         ensures { result ≡ gets_on list.now n quota self }
     {
@@ -130,6 +122,7 @@ impl Cursor {
     }
 
     // The address was acknowledged.
+    #[tactic(auto, unfolding(crate::specs::Cursor::carries_out))]
     fn carries_out(self, list: &[u8]) -> Cursor
         ensures { result ≡ carries_out list.now self }
     {
@@ -144,6 +137,7 @@ impl Cursor {
     }
 
     // The transaction at a place, with its results from `top` on; or the list's end.
+    #[tactic(auto, unfolding(crate::specs::Cursor::opens_at, crate::specs::Cursor::wrap))]
     pub fn opens_at(list: &[u8], at: u32, top: u32) -> Cursor
         ensures { result ≡ opens_at list.now at top }
     {
@@ -152,9 +146,9 @@ impl Cursor {
             let low = byte_at(list, place + 1);
             let high = byte_at(list, place + 2);
             Cursor {
-                act: Act::Opens(low as u32 + 256 * (high as u32)),
+                act: Act::Opens(u32::from(u16::from_le_bytes([low, high]))),
                 at: ((place + 3) % WRAP) as u32,
-                left: one_less(list[place]),
+                left: list[place].saturating_sub(1),
                 slot: ((top as usize + 1) % WRAP) as u32,
                 top,
                 count: 0,
@@ -166,104 +160,65 @@ impl Cursor {
     }
 
     // The symbol has ended, in which SDA was seen as v.
+    #[tactic(auto, unfolding(crate::specs::Cursor::step_of))]
     pub fn step(self, list: &[u8], v: bool) -> Cursor
         ensures { result ≡ step_of list.now v self }
     {
-        let act = self.act;
-        match act {
-            Act::Opens(_) => self.acts(Act::Addresses(7)),
-            Act::Reopens => self.acts(Act::Addresses(7)),
+        match self.act {
+            Act::Opens(_) | Act::Reopens => self.acts(Act::Addresses(7)),
             Act::Closes => {
-                let c = self.passed_all(list);
-                Cursor::opens_at(list, c.at, c.slot)
+                let after = self.passed_all(list);
+                Cursor::opens_at(list, after.at, after.slot)
             }
-            Act::Finishes => self.acts(Act::Finishes),
-            Act::Addresses(k) => if k == 0 {
-                self.acts(Act::Hears)
-            } else {
-                self.acts(Act::Addresses(k - 1))
-            },
-            Act::Hears => if v {
-                self.refused_by(list)
-            } else {
-                self.carries_out(list)
-            },
-            Act::Puts(k) => if k == 0 {
-                self.acts(Act::Awaits)
-            } else {
-                self.acts(Act::Puts(k - 1))
-            },
-            Act::Awaits => if v {
-                self.refused_by(list)
-            } else {
-                self.puts_on(list, self.more, self.count % 255 + 1)
-            },
-            Act::Gets(k, x, q) => if k == 0 {
-                self.acts(Act::Answers(shifted(x, v), q))
-            } else {
-                self.acts(Act::Gets(k - 1, shifted(x, v), q))
-            },
-            Act::Answers(x, q) => self.gets_on(list, q.follow(x), q),
+            Act::Finishes => self,
+            Act::Addresses(0) => self.acts(Act::Hears),
+            Act::Addresses(k) => self.acts(Act::Addresses(k - 1)),
+            Act::Hears | Act::Awaits if v => self.refused_by(list),
+            Act::Hears => self.carries_out(list),
+            Act::Awaits => self.puts_on(list, self.more, self.count % 255 + 1),
+            Act::Puts(0) => self.acts(Act::Awaits),
+            Act::Puts(k) => self.acts(Act::Puts(k - 1)),
+            Act::Gets(0, x, quota) => self.acts(Act::Answers(shifted(x, v), quota)),
+            Act::Gets(k, x, quota) => self.acts(Act::Gets(k - 1, shifted(x, v), quota)),
+            Act::Answers(x, quota) => self.gets_on(list, quota.follow(x), quota),
         }
     }
 
     // What the end of the symbol notes in the result area.
+    #[tactic(auto, unfolding(crate::specs::Cursor::note_of, orders::specs::Marks::note, orders::specs::Marks::read_mark))]
     pub fn note(self, list: &[u8], v: bool, area: &mut [u8])
-        ensures { area.exit.now ≡ (note_of list.now v self (record { area = area.entry.now })).area }
+        ensures { area.new ≡ (note_of list.now v self (record { area = area.old })).area }
     {
-        let act = self.act;
         let slot = self.slot as usize;
         let count = self.count % 255;
-        match act {
-            Act::Opens(_) => {}
-            Act::Reopens => {}
-            Act::Closes => {
-                put_at(area, self.top as usize, 0);
-            }
-            Act::Finishes => {}
-            Act::Addresses(_) => {}
-            Act::Hears => {
-                if v {
-                    return;
-                }
-                put_at(area, slot, 1);
-            }
-            Act::Puts(_) => {}
-            Act::Awaits => {
-                if v {
-                    return;
-                }
-                put_at(area, slot + 1, count + 1);
-            }
-            Act::Gets(_, _, _) => {}
+        match self.act {
+            Act::Closes => put_at(area, self.top as usize, 0),
+            Act::Hears if !v => put_at(area, slot, 1),
+            Act::Awaits if !v => put_at(area, slot + 1, count + 1),
             Act::Answers(x, _) => {
                 put_at(area, slot + 2 + count as usize, x);
                 put_at(area, slot + 1, count + 1);
             }
+            _ => {}
         }
     }
 
     // The phase in which its symbol begins.
+    #[tactic(auto, unfolding(crate::specs::Cursor::ask_of))]
     pub fn enter(self, list: &[u8]) -> Phase
         ensures { result ≡ enter (ask_of list.now self) }
     {
-        let act = self.act;
-        match act {
-            Act::Opens(wait) => if wait == 0 {
-                Phase::Zero(Symbol::Start(Begin::First))
-            } else {
-                Phase::Waiting(wait - 1)
-            },
+        match self.act {
+            Act::Opens(0) => Phase::Zero(Symbol::Start(Begin::First)),
+            Act::Opens(wait) => Phase::Waiting(wait - 1),
             Act::Reopens => Phase::Zero(Symbol::Start(Begin::Repeated)),
             Act::Closes => Phase::Zero(Symbol::Stop),
-            Act::Finishes => Phase::Over(Fault::Clear),
+            Act::Finishes => Phase::Over(None),
             Act::Addresses(k) => Phase::Zero(Symbol::Sent(bit_at(k, self.address(list)))),
-            Act::Hears => Phase::Zero(Symbol::Received),
             Act::Puts(k) => Phase::Zero(Symbol::Sent(bit_at(k, self.data(list)))),
-            Act::Awaits => Phase::Zero(Symbol::Received),
-            Act::Gets(_, _, _) => Phase::Zero(Symbol::Received),
+            Act::Hears | Act::Awaits | Act::Gets(_, _, _) => Phase::Zero(Symbol::Received),
             // 0 to each byte read but the last, which gets 1: a chip whose last byte is acknowledged sends on, and may hold SDA so that no STOP can form.
-            Act::Answers(x, q) => Phase::Zero(Symbol::Sent(q.follow(x) == 0)),
+            Act::Answers(x, quota) => Phase::Zero(Symbol::Sent(quota.follow(x) == 0)),
         }
     }
 
@@ -280,8 +235,6 @@ impl Cursor {
     fn data(self, list: &[u8]) -> u8
         ensures { result ≡ data_at list.now self }
     {
-        let at = self.at as usize;
-        let count = self.count as usize;
-        byte_at(list, at + 3 + count)
+        byte_at(list, self.at as usize + 3 + self.count as usize)
     }
 }

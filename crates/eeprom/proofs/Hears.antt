@@ -1,6 +1,6 @@
--- What a delivered bit and an event do to a chip, an answer at a time, as the code finds it. Assumes nothing.
-use Prim.Native.Nat.{ℕ, zero, suc, ◌-◌, ◌/◌}
-use mathlib.Core.Path.{◌≡◌, refl, ap}
+-- What a delivered bit and an event do to a chip, a law for each rule of the stages, as the code finds them; docs/MAP.md names this file. Assumes nothing.
+use Prim.Native.Nat.{ℕ, zero, suc, ◌-◌, ◌/◌, ◌≤◌}
+use mathlib.Core.Path.{◌≡◌, refl, ap, sym}
 use mathlib.Core.Bool.{Bool, true, false, ◌&&◌}
 use mathlib.Core.List.{List}
 use native.Mathlib.Omega.{arith}
@@ -37,6 +37,15 @@ taking_on (suc n) x free b k h = let e : suc n - 1 ≡ n = omega arith in rw e
 sending_on : (n x : ℕ) (free b : Bool) (k : Core) → (n ≡ 0 → ⊥) → at (Sending (n - 1) x) k ≡ bit_to (Sending n x) free b k
 sending_on zero x free b k h = absurd (h refl)
 sending_on (suc n) x free b k h = let e : suc n - 1 ≡ n = omega arith in rw e
+
+-- the count of bits to come falls by one: from s to t
+pub counts_on : (c r : Chip) (m : List ℕ) (free b : Bool) (s t : ℕ → Stage) (n : ℕ)
+    → ((k : ℕ) (d : Core) → bit_to (s (suc k)) free b d ≡ at (t k) d) → c.stage ≡ s n → 1 ≤ n → r ≡ record { stage = t (n - 1); store = c.store } → core_of r m ≡ bit_to c.stage free b (core_of c m)
+counts_on c r m free b s t n q e l h = rw (h, e) (go n l)
+  where
+    go : (n : ℕ) → 1 ≤ n → at (t (n - 1)) (core_of c m) ≡ bit_to (s n) free b (at (s n) (core_of c m))
+    go zero l = absurd (omega arith)
+    go (suc n) l = let i : suc n - 1 ≡ n = omega arith in rw i (sym (q n (at (s (suc n)) (core_of c m))))
 
 module _ (c : Chip) (m : List ℕ) (free b : Bool) where
   abbrev staged : Stage → Core

@@ -9,19 +9,15 @@ use lines::{Event, bit_at, one_less, shifted};
 use store::{Model, Store};
 
 impl Stage {
-    // What is driven on SDA.
+    // What is driven on SDA. Stays: it is a table of levels, and one stage's is a bit of its byte.
     #[tactic(auto, unfolding(crate::specs::Stages::sda_of))]
     fn sda(self) -> bool
         ensures { result ≡ sda_of self }
     {
         match self {
-            Stage::Deaf => true,
-            Stage::Naming(_, _) => true,
-            Stage::Named(_) => false,
-            Stage::Taking(_, _) => true,
-            Stage::Taken => false,
+            Stage::Deaf | Stage::Naming(_, _) | Stage::Taking(_, _) | Stage::Asking => true,
+            Stage::Named(_) | Stage::Taken => false,
             Stage::Sending(left, byte) => bit_at(left, byte),
-            Stage::Asking => true,
         }
     }
 }
@@ -30,12 +26,8 @@ impl Stage {
 fn named(name: u8, free: bool, byte: u8) -> Stage
     ensures { (c : Core) → at result c ≡ named (eqb (byte / 2) name && free) byte c }
 {
-    if byte / 2 == name {
-        if free {
-            Stage::Named(byte % 2 == 1)
-        } else {
-            Stage::Deaf
-        }
+    if byte / 2 == name && free {
+        Stage::Named(byte % 2 == 1)
     } else {
         Stage::Deaf
     }
@@ -46,10 +38,9 @@ impl Chip {
     pub fn at_rest(name: u8, model: Model, pointer: u16) -> Chip
         ensures { (m : List ℕ) → core_of result m ≡ (body_at name model pointer 0 m).core }
     {
-        let store = Store::at_rest(name, model, pointer);
         Chip {
             stage: Stage::Deaf,
-            store: store,
+            store: Store::at_rest(name, model, pointer),
         }
     }
 
@@ -57,135 +48,74 @@ impl Chip {
     pub fn sda(self) -> bool
         ensures { result ≡ sda_of self.stage }
     {
-        let stage = self.stage;
-        stage.sda()
+        self.stage.sda()
     }
 
     // Does a STOP store?
+    #[tactic(auto, unfolding(crate::specs::Stages::due))]
     pub fn due(self) -> bool
         ensures { (m : List ℕ) → result ≡ due (core_of self m) }
     {
-        let store = self.store;
-        store.latched
+        self.store.latched
+    }
+
+    // What it keeps stays.
+    fn at(self, stage: Stage) -> Chip
+        ensures { result ≡ record { stage = stage; store = self.store } }
+    {
+        Chip { stage, ..self }
     }
 
     // The ninth bit of a byte that it sent. After a 1 it lets go of SDA: a chip that sent on could hold SDA, and no STOP could form.
     fn answered(self, bit: bool, mem: &[u8]) -> Chip
         ensures { core_of result mem.now ≡ answered bit (kept_of (stepped self.store) mem.now) }
     {
-        let store = self.store;
-        let next = store.steps();
-        if bit {
-            Chip {
-                stage: Stage::Deaf,
-                store: next,
-            }
+        let store = self.store.steps();
+        let stage = if bit {
+            Stage::Deaf
         } else {
-            let byte = next.byte_now(mem);
-            Chip {
-                stage: Stage::Sending(7, byte),
-                store: next,
-            }
-        }
+            Stage::Sending(7, store.byte_now(mem))
+        };
+        Chip { stage, store }
     }
 
     // A bit is delivered to a chip that is free, its busy time 0, or not.
+    #[tactic(auto, unfolding(store::specs::Keeping::takes, store::specs::Keeping::steps))]
     fn bit(self, free: bool, bit: bool, mem: &[u8]) -> Chip
         ensures { core_of result mem.now ≡ bit_to self.stage free bit (core_of self mem.now) }
     {
-        let stage = self.stage;
-        let store = self.store;
-        match stage {
+        match self.stage {
             Stage::Deaf => self,
-            Stage::Naming(left, x) => {
-                let byte = shifted(x, bit);
-                if left == 0 {
-                    let next = named(store.name, free, byte);
-                    Chip {
-                        stage: next,
-                        store: store,
-                    }
-                } else {
-                    Chip {
-                        stage: Stage::Naming(left - 1, byte),
-                        store: store,
-                    }
-                }
-            }
-            Stage::Named(reads) => {
-                if reads {
-                    let byte = store.byte_now(mem);
-                    Chip {
-                        stage: Stage::Sending(7, byte),
-                        store: store,
-                    }
-                } else {
-                    Chip {
-                        stage: Stage::Taking(7, 0),
-                        store: store,
-                    }
-                }
-            }
-            Stage::Taking(left, x) => {
-                let byte = shifted(x, bit);
-                if left == 0 {
-                    let next = store.takes(byte);
-                    Chip {
-                        stage: Stage::Taken,
-                        store: next,
-                    }
-                } else {
-                    Chip {
-                        stage: Stage::Taking(left - 1, byte),
-                        store: store,
-                    }
-                }
-            }
-            Stage::Taken => {
-                Chip {
-                    stage: Stage::Taking(7, 0),
-                    store: store,
-                }
-            }
-            Stage::Sending(left, x) => {
-                if left == 0 {
-                    Chip {
-                        stage: Stage::Asking,
-                        store: store,
-                    }
-                } else {
-                    Chip {
-                        stage: Stage::Sending(left - 1, x),
-                        store: store,
-                    }
-                }
-            }
+            Stage::Naming(0, x) => self.at(named(self.store.name, free, shifted(x, bit))),
+            Stage::Naming(left, x) => self.at(Stage::Naming(left - 1, shifted(x, bit))),
+            Stage::Named(true) => self.at(Stage::Sending(7, self.store.byte_now(mem))),
+            Stage::Named(false) | Stage::Taken => self.at(Stage::Taking(7, 0)),
+            Stage::Taking(0, x) => Chip {
+                stage: Stage::Taken,
+                store: self.store.takes(shifted(x, bit)),
+            },
+            Stage::Taking(left, x) => self.at(Stage::Taking(left - 1, shifted(x, bit))),
+            Stage::Sending(0, _) => self.at(Stage::Asking),
+            Stage::Sending(left, x) => self.at(Stage::Sending(left - 1, x)),
             Stage::Asking => self.answered(bit, mem),
         }
     }
 
     // What it makes of an event. START and STOP always count and let go of SDA.
+    #[tactic(auto, unfolding(crate::specs::Stages::hears, store::specs::Keeping::starts))]
     pub fn hear(self, free: bool, event: Event, mem: &mut [u8]) -> Chip
         ensures { core_of result mem.new ≡ hears free event (core_of self mem.old) }
     {
-        let store = self.store;
         match event {
             Event::Quiet => self,
-            Event::Started => {
-                let next = store.starts();
-                Chip {
-                    stage: Stage::Naming(7, 0),
-                    store: next,
-                }
-            }
-            Event::Stopped => {
-                let stores = self.due();
-                let next = store.stops(stores, mem);
-                Chip {
-                    stage: Stage::Deaf,
-                    store: next,
-                }
-            }
+            Event::Started => Chip {
+                stage: Stage::Naming(7, 0),
+                store: self.store.starts(),
+            },
+            Event::Stopped => Chip {
+                stage: Stage::Deaf,
+                store: self.store.stops(self.due(), mem),
+            },
             Event::Bit(bit) => self.bit(free, bit, mem),
         }
     }
@@ -195,10 +125,8 @@ impl Chip {
         ensures { (m : List ℕ) → result ≡ busy_after asked event (core_of self m) busy }
     {
         match event {
-            Event::Quiet => one_less(busy),
-            Event::Started => one_less(busy),
-            Event::Stopped => if self.due() { asked } else { one_less(busy) },
-            Event::Bit(_) => one_less(busy),
+            Event::Stopped if self.due() => asked,
+            _ => one_less(busy),
         }
     }
 }

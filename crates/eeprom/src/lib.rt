@@ -11,7 +11,7 @@ use store::Store;
 pub const MOST_BUSY: u16 = 20000;
 
 // Where a chip stands in a byte. Bits are counted down: so many come after the next.
-#[derive(Clone, Copy)]
+#[derive(Clone, Copy, Debug, PartialEq, Eq)]
 pub enum Stage {
     // silent until START
     Deaf,

@@ -12,29 +12,26 @@ use store::Model;
 pub fn word_at(s: &[u8], at: u8) -> u16
     ensures { result ≡ word_at s.now at }
 {
-    let low = byte_at(s, at as usize);
-    let high = byte_at(s, at as usize + 1);
-    low as u16 + 256 * (high as u16)
+    let at = at as usize;
+    u16::from_le_bytes([byte_at(s, at), byte_at(s, at + 1)])
 }
 
 // The four bytes of a chip's state.
 pub fn put_state(state: &mut [u8], pointer: u16, busy: u16)
     ensures { state.new ≡ over (word_bytes pointer (word_bytes busy [])) state.old }
 {
-    put_at(state, 0, (pointer % 256) as u8);
-    put_at(state, 1, (pointer / 256) as u8);
-    put_at(state, 2, (busy % 256) as u8);
-    put_at(state, 3, (busy / 256) as u8);
+    let [low, high] = pointer.to_le_bytes();
+    put_at(state, 0, low);
+    put_at(state, 1, high);
+    let [low, high] = busy.to_le_bytes();
+    put_at(state, 2, low);
+    put_at(state, 3, high);
 }
 
 // The pointer inside the chip, the busy time within its bound.
+#[tactic(auto, unfolding(crate::specs::States::most_busy))]
 pub fn state_right(model: Model, pointer: u16, busy: u16) -> bool
     ensures { result ≡ (ltb pointer (geometry_of model).size && leb busy most_busy) }
 {
-    let size = model.size();
-    if pointer < size {
-        busy <= MOST_BUSY
-    } else {
-        false
-    }
+    pointer < model.size() && busy <= MOST_BUSY
 }

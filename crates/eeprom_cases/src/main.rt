@@ -11,128 +11,81 @@
 #![tactic(auto)]
 
 mod report;
-mod spelling;
+mod script;
 
-use lent::byte_at;
-use spelling::{Case, Script, Tape};
+use eeprom::{put_state, word_at};
+use lone_chip::chip_alone;
+use printing::Outcome;
+use report::{Drives, Report};
+use script::{Case, Script, Tape};
+use std::io;
+use std::io::Read;
 
-// The chip on the first ticks of the record.
-fn runs(case: Case, rec: &[u8], ticks: u16) {
-    let mut drives = io::large_buffer();
+// No more of the input is read.
+const MOST_INPUT: usize = 65536;
+
+// The chip on a record.
+fn runs(rt: &HostRuntime, case: &Case, record: &[u8]) -> io::Result<()> {
     let mut memory = report::first_bytes();
-    let mut state = [0u8; 4];
-    eeprom::put_state(&mut state, case.pointer, case.busy);
-    let n = io::count(ticks as isize, rec);
-    let m = io::count(case.memory as isize, &memory);
-    let y = io::count(case.state as isize, &state);
-    let v = io::count(case.drives as isize, &drives);
-    let answer = lone_chip::chip_alone(
+    let mut state = [0; 4];
+    put_state(&mut state, case.pointer, case.busy);
+    let mut drives = vec![in rt.alloc(); 0; usize::from(case.drives)]?;
+    let outcome = chip_alone(
         case.strap,
-        &mut memory[..m],
-        &mut state[..y],
+        &mut memory[..usize::from(case.memory).min(4096)],
+        &mut state[..usize::from(case.state).min(4)],
         case.asked,
-        &rec[..n],
-        &mut drives[..v],
+        record,
+        &mut drives,
     );
-    report::answered(answer, &state);
-    if case.sweep == 0 {
-        report::pulled(&drives, answer.ticks);
-    } else {
-        report::digest(&drives, answer.ticks);
-    }
-    report::changed(&memory);
+    drives.truncate(outcome.unwrap_or(0));
+    let report = Report {
+        outcome: Outcome(outcome),
+        pointer: word_at(&state, 0),
+        busy: word_at(&state, 2),
+        drives: match case.sweep {
+            None => Drives::Pulled(&drives),
+            Some(_) => Drives::Summed(&drives),
+        },
+        memory: &memory,
+    };
+    println!(rt; "{report}")
 }
 
-// How many ticks of the record are kept.
-fn last_kept(sweep: u8, ticks: u16, t: u16) -> u16 {
-    if sweep == 3 { ticks } else { t }
+fn shows(rt: &HostRuntime, script: &Script) -> io::Result<()> {
+    let case = &script.case;
+    let record = script.tape.samples.as_slice();
+    let Some(sweep) = case.sweep else {
+        return runs(rt, case, record);
+    };
+    println!(rt)?;
+    for tick in 0..record.len() {
+        let tape = Tape::swept(rt.alloc(), sweep, record, tick)?;
+        print!(rt; " {tick}")?;
+        runs(rt, case, &tape.samples)?;
+    }
+    Ok(())
 }
 
-// A sample of the record, or with SDA flipped.
-fn seen(sweep: u8, x: u8, here: bool) -> u8 {
-    if sweep == 3 {
-        if here { (x % 4 + 2) % 4 } else { x }
-    } else {
-        x
-    }
-}
-
-// The record up to a tick, and then a STOP, a START, or the rest with SDA flipped in that tick; then one byte is read.
-fn cut(sweep: u8, rec: &[u8], ticks: u16, t: u16, out: &mut [u8]) -> Tape {
-    let last = last_kept(sweep, ticks, t);
-    let mut tape = Tape::opened();
-    let mut i = 0;
-    while i < last {
-        let x = byte_at(rec, i as usize);
-        tape = tape.raw(out, seen(sweep, x, i == t));
-        i += 1;
-    }
-    if sweep == 1 {
-        let low = tape.raw(out, 1);
-        let high = low.raw(out, 3);
-        let again = high.start(out);
-        again.probe(out)
-    } else {
-        if sweep == 2 {
-            let high = tape.raw(out, 3);
-            let low = high.raw(out, 1);
-            low.probe(out)
-        } else {
-            let again = tape.start(out);
-            again.probe(out)
+fn main(rt: HostRuntime) -> io::Result<()> {
+    // a read that fails ends the input
+    let text: Vec<u8> = rt
+        .reader()
+        .bytes()
+        .take(MOST_INPUT)
+        .map_while(Result::ok)
+        .collect(rt.alloc())?;
+    // the name is written as it stands, the commands make the record
+    for line in text.split_inclusive(|byte| *byte == b'\n') {
+        let whole = line.strip_suffix(b"\n");
+        let line = whole.unwrap_or(line);
+        let colon = line.iter().position(|byte| *byte == b':');
+        let (name, commands) = line.split_at(colon.map_or(line.len(), |at| at + 1));
+        // Stays: a name is bytes, and need be no text
+        rt.write_all(name)?;
+        if whole.is_some() {
+            shows(&rt, &Script::of(rt.alloc(), commands)?)?;
         }
     }
-}
-
-// A record again and again, with something at each of its ticks.
-fn sweeps(case: Case, rec: &[u8], ticks: u16) {
-    let mut other = io::large_buffer();
-    let mut t = 0;
-    while t < ticks {
-        let tape = cut(case.sweep, rec, ticks, t, &mut other);
-        report::number(t as u64);
-        runs(case, &other, tape.at);
-        t += 1;
-    }
-}
-
-fn shows(script: Script, rec: &[u8]) {
-    let case = script.case;
-    let tape = script.tape;
-    if case.sweep == 0 {
-        runs(case, rec, tape.at);
-    } else {
-        report::ends();
-        sweeps(case, rec, tape.at);
-    }
-}
-
-// Line by line: the name is written as it stands, the commands make the record.
-fn cases(text: &[u8]) {
-    let mut rec = io::large_buffer();
-    let mut script = Script::opened();
-    let mut named = false;
-    let mut i = 0;
-    while i < text.len() {
-        let c = text[i];
-        i += 1;
-        if c == b'\n' {
-            shows(script, &rec);
-            script = Script::opened();
-            named = false;
-            continue;
-        }
-        if named {
-            script = script.command(c, &mut rec);
-            continue;
-        }
-        report::letter(c);
-        named = c == b':';
-    }
-}
-
-fn main() {
-    let mut text = io::large_buffer();
-    let n = io::read_full(0, &mut text);
-    cases(&text[..n]);
+    Ok(())
 }

@@ -1,95 +1,80 @@
 // What came out of a run, in words.
-use eeprom::word_at;
-use lent::{Answer, byte_at};
+use printing::Outcome;
+use std::{array, fmt};
 
-// The byte at each place of the memory before a run.
-fn first_byte(i: usize) -> u8 {
-    (i % 251) as u8
-}
-
+// The memory before a run.
 pub fn first_bytes() -> [u8; 4096] {
-    let mut memory = [0u8; 4096];
-    let mut i = 0;
-    while i < 4096 {
-        memory[i] = first_byte(i);
-        i += 1;
-    }
-    memory
+    array::from_fn(|place| (place % 251) as u8)
 }
 
-pub fn letter(c: u8) {
-    io::write_all(1, &[c]);
+// Number, ticks, pointer, busy ticks, the drive bytes, and the places whose byte is another one now.
+#[derive(Clone, Copy)]
+pub struct Report<'a> {
+    pub outcome: Outcome,
+    pub pointer: u16,
+    pub busy: u16,
+    pub drives: Drives<'a>,
+    pub memory: &'a [u8],
 }
 
-pub fn ends() {
-    io::write_all(1, b"\n");
+#[derive(Clone, Copy)]
+pub enum Drives<'a> {
+    // the ticks in which SDA was pulled, as first-last
+    Pulled(&'a [u8]),
+    // all in one number
+    Summed(&'a [u8]),
 }
 
-pub fn number(n: u64) {
-    io::write_all(1, b" ");
-    io::print_decimal(1, n);
-}
-
-// Number, ticks, pointer, busy ticks.
-pub fn answered(answer: Answer, state: &[u8; 4]) {
-    number(answer.number as u64);
-    number(answer.ticks as u64);
-    number(word_at(state, 0) as u64);
-    number(word_at(state, 2) as u64);
-}
-
-// The ticks in which SDA was pulled, as first-last; a drive byte that is neither 1 nor 3 would be told.
-pub fn pulled(drives: &[u8; 65536], ticks: usize) {
-    io::write_all(1, b" low");
-    let mut low = false;
-    let mut i = 0;
-    while i < ticks {
-        let x = byte_at(drives, i);
-        if x == 1 {
-            if !low {
-                number(i as u64);
-                io::write_all(1, b"-");
+impl fmt::Display for Report<'_> {
+    fn fmt<W: fmt::Write>(&self, f: &mut fmt::Formatter<W>) -> fmt::Result {
+        let Report {
+            outcome,
+            pointer,
+            busy,
+            drives,
+            ..
+        } = self;
+        write!(f, " {outcome} {pointer} {busy}{drives}")?;
+        for (place, (byte, first)) in self.memory.iter().zip(&first_bytes()).enumerate() {
+            if byte != first {
+                write!(f, " {place}:{byte:02x}")?;
             }
-            if byte_at(drives, i + 1) != 1 {
-                io::print_decimal(1, i as u64);
-            } else {
-                if i + 1 == ticks {
-                    io::print_decimal(1, i as u64);
+        }
+        Ok(())
+    }
+}
+
+impl fmt::Display for Drives<'_> {
+    fn fmt<W: fmt::Write>(&self, f: &mut fmt::Formatter<W>) -> fmt::Result {
+        match self {
+            Drives::Pulled(drives) => pulled(f, drives),
+            Drives::Summed(drives) => {
+                // the first remainder only shows that the product fits
+                let sum = drives.iter().fold(1, |sum: u64, drive| {
+                    (sum % 65521 * 31 + u64::from(*drive)) % 65521
+                });
+                write!(f, " sum {sum}")
+            }
+        }
+    }
+}
+
+// A drive byte that is neither 1 nor 3 would be told.
+fn pulled<W: fmt::Write>(f: &mut fmt::Formatter<W>, drives: &[u8]) -> fmt::Result {
+    write!(f, " low")?;
+    let mut tick = 0usize;
+    for alike in drives.chunk_by(|a, b| a == b) {
+        let next = tick.saturating_add(alike.len());
+        match alike.first() {
+            Some(1) => write!(f, " {tick}-{}", next.saturating_sub(1))?,
+            Some(3) => {}
+            _ => {
+                for _ in alike {
+                    write!(f, " strange")?;
                 }
             }
-        } else {
-            if x != 3 {
-                io::write_all(1, b" strange");
-            }
         }
-        low = x == 1;
-        i += 1;
+        tick = next;
     }
-}
-
-// All drive bytes in one number.
-pub fn digest(drives: &[u8; 65536], ticks: usize) {
-    let mut sum = 1;
-    let mut i = 0;
-    while i < ticks {
-        sum = (sum * 31 + byte_at(drives, i) as u64) % 65521;
-        i += 1;
-    }
-    io::write_all(1, b" sum");
-    number(sum);
-}
-
-// The places whose byte is another one now.
-pub fn changed(memory: &[u8; 4096]) {
-    let mut i = 0;
-    while i < 4096 {
-        let x = byte_at(memory, i);
-        if x != first_byte(i) {
-            number(i as u64);
-            io::write_all(1, b":");
-            io::print_hex(1, x as u64, 2);
-        }
-        i += 1;
-    }
-    ends();
+    Ok(())
 }

@@ -20,7 +20,14 @@ pub extern "C" fn bilvakront_bus_run(
     ensures { traced (record { number = result; ticks = ticks.new }) memory.new states.new results.new trace.new
         ≡ wire_run list.now marks memory.old states.old holds.now asked results.old trace.old }
 {
-    let answer = bus::run(list, marks, memory, states, holds, asked, results, trace);
-    *ticks = answer.ticks as u64;
-    answer.number
+    match bus::run(list, marks, memory, states, holds, asked, results, trace) {
+        Ok(told) => {
+            *ticks = told as u64;
+            0
+        }
+        Err(refusal) => {
+            *ticks = 0;
+            u8::from(refusal)
+        }
+    }
 }

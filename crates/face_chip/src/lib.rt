@@ -18,7 +18,10 @@ pub extern "C" fn bilvakront_chip_alone(
     ensures { left_by (record { number = result; ticks = ticks.new }) memory.new state.new drives.new
         ≡ chip_alone strap memory.old state.old asked samples.now drives.old }
 {
-    let answer = lone_chip::chip_alone(strap, memory, state, asked, samples, drives);
-    *ticks = answer.ticks as u64;
-    answer.number
+    let (number, seen) = match lone_chip::chip_alone(strap, memory, state, asked, samples, drives) {
+        Ok(seen) => (0, seen),
+        Err(refusal) => (u8::from(refusal), 0),
+    };
+    *ticks = seen as u64;
+    number
 }

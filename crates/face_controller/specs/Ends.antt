@@ -1,9 +1,7 @@
 -- How a run on a record ended, as a number. The paper numbers the faults; the other ends have numbers beside them. Assumes nothing.
 use Rattle.std.specs.Prelude.{ℕ, List}
 use Rattle.symbols.specs.Faults.{outcome_of}
-use Rattle.controller.specs.Alone.{Alone}
-use Rattle.controller.specs.declared.End.{End}
-use Rattle.controller.specs.declared.End.TheVariants.{Refused, ListEnd, Faulted, RecordEnd}
+use Rattle.controller.specs.Alone.{Alone, End, Refused, ListEnd, Faulted, RecordEnd}
 
 abbrev pub end_number : End → ℕ
 end_number ListEnd = 0

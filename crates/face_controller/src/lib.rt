@@ -3,20 +3,20 @@
 #![tactic(auto)]
 
 ghost use Rattle.std.specs.Prelude.{◌≡◌};
-ghost use Rattle.controller.specs.Alone.{alone};
+ghost use Rattle.controller.specs.Alone.{alone, end_told};
 ghost use Rattle.face_controller.specs.Ends.{end_number, told_as, numbered};
 
 use controller::End;
 
-// How a run on a record ended, as a number: 0 the list's end, 1 to 5 a fault, 6 the record's end, 7 refused.
+// How a run on a record ended, as a number: 0 the list's end, 1 to 5 a fault, 6 the record's end; 7 is for a call that was refused.
+// Stays: the numbers of an end are the C interface's, not the controller's, and here neither End nor u8 is our own for an impl From.
 fn end_number(end: End) -> u8
-    ensures { result ≡ end_number end }
+    ensures { result ≡ end_number (end_told end) }
 {
     match end {
         End::ListEnd => 0,
-        End::Faulted(fault) => fault.outcome(),
+        End::Faulted(fault) => u8::from(fault),
         End::RecordEnd => 6,
-        End::Refused => 7,
     }
 }
 
@@ -32,9 +32,16 @@ pub extern "C" fn bilvakront_controller_alone(
     ensures { told_as result end.new ticks.new drives.new results.new
         ≡ numbered (alone list.now samples.now drives.old results.old) }
 {
-    let told = controller::alone(list, samples, drives, results);
-    let ended = told.end;
-    *end = end_number(ended);
-    *ticks = told.ticks as u64;
-    told.number
+    match controller::alone(list, samples, drives, results) {
+        Ok(told) => {
+            *end = end_number(told.end);
+            *ticks = told.ticks as u64;
+            0
+        }
+        Err(refusal) => {
+            *end = 7;
+            *ticks = 0;
+            u8::from(refusal)
+        }
+    }
 }

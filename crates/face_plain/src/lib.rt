@@ -19,7 +19,14 @@ pub extern "C" fn bilvakront_plain_reading(
     ensures { ◌≡◌ {A = Outcome} (record { answer = record { number = result; ticks = ticks.new }; memory = memory.new; states = states.new; results = results.new })
         (plain_run list.now marks memory.old states.old holds.now asked results.old) }
 {
-    let answer = reading::read(list, marks, memory, states, holds, asked, results);
-    *ticks = answer.ticks as u64;
-    answer.number
+    match reading::read(list, marks, memory, states, holds, asked, results) {
+        Ok(count) => {
+            *ticks = count as u64;
+            0
+        }
+        Err(refusal) => {
+            *ticks = 0;
+            u8::from(refusal)
+        }
+    }
 }

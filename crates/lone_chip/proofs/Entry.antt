@@ -1,82 +1,37 @@
--- What the code of the entry "one chip alone" leans on: its refusals in their order, a tick of the chip with its eye, the bytes of its state, and the
--- whole run. Assumes nothing.
+-- What the code of the entry "one chip alone" leans on: what an accepted call has, a turn of the loop over the samples, and the whole run. Assumes nothing.
 use Prim.Native.Nat.{ℕ, suc, ◌+◌, ◌<◌, ◌≤◌}
 use mathlib.Core.Path.{◌≡◌, refl, ap, sym, ◌∙◌}
-use mathlib.Core.Bool.{Bool, true, false, not, ◌&&◌, and-eq-true_iff}
+use mathlib.Core.Bool.{Bool, true, not, ◌&&◌, and-eq-true_iff}
 use mathlib.Core.List.{List, [], ◌∷◌}
-use borrow.Author.Tests.{lt-ltb, le-ltb, eq-eqb, ne_eqb, ltb-false, eqb-true, not-false}
-use lib.Dec.{eqb, ltb, leb}
+use native.Mathlib.Omega.{arith}
+use borrow.Author.Tests.{ne_eqb, ltb-false, eqb-true, not-false}
+use lib.Dec.{eqb, ltb}
 use lib.ListN.{length, get_or, set}
-use Rattle.lent.specs.Areas.{over, all_within}
-use Rattle.lent.specs.Refusals.{no, ◌then◌}
+use Rattle.std.proofs.Common.{Result, Err}
+use Rattle.lent.specs.Areas.{over}
+use Rattle.lent.specs.Refusals.{no, ◌then◌, number_of, answer_of}
+use Rattle.lent.specs.declared.Refusal.{Refusal}
+use Rattle.lent.specs.declared.Refusal.TheVariants.{ListTooLong, ListBroken, LentLengths, StateOutOfRange, HoldTooLong, BusyTooLong, AreaTooSmall, SampleOutOfRange, DrivesTooShort, NoSuchStrap}
 use Rattle.lent.proofs.Rows.{over_whole}
 use Rattle.lent.proofs.Refusals.{none_first, none_later, not_said}
 use Rattle.lines.specs.Levels.{hi, ◌∥◌, byte_of, lines_of}
-use Rattle.lines.specs.Events.{event_of, eye_after, opened}
+use Rattle.lines.specs.Events.{opened}
 use Rattle.lines.specs.Records.{walk, drives_on, bad_sample}
 use Rattle.lines.specs.declared.Lines.{Lines}
 use Rattle.lines.specs.declared.Eye.{Eye}
-use Rattle.lines.specs.declared.Event.{Event}
 use Rattle.lines.proofs.Records.{Left, leaves, one_tick}
 use Rattle.store.specs.Pages.{geometry_of}
 use Rattle.store.specs.declared.Model.{Model}
 use Rattle.store.specs.declared.Model.TheVariants.{Large}
-use Rattle.eeprom.specs.Stages.{Core, core_of, hears, sda_of, busy_after, body_tick}
+use Rattle.eeprom.specs.Stages.{Core, core_of, sda_of}
 use Rattle.eeprom.specs.States.{most_busy, word_at, word_bytes, body_at, body_from, state_bytes, state_right}
 use Rattle.eeprom.specs.declared.Chip.{Chip}
 use Rattle.lone_chip.specs.Alone.{Watching, watch_of, rest_of, chip, chip_number, left_by, chip_alone}
 use Rattle.lone_chip.specs.declared.Watch.{Watch}
 
--- the refusals, each after those before it were passed
 module _ (strap asked : ℕ) (memory state samples drives : List ℕ) where
-  pub no_such_strap : 7 < strap → 10 ≡ chip_number strap memory state asked samples drives
-  unfolding chip_number
-  no_such_strap h = rw (lt-ltb 7 strap h)
-
-  module _ (size : ℕ) (is : size ≡ (geometry_of Large).size) (a : strap ≤ 7) where
-    pub memory_not_whole : (length memory ≡ size → ⊥) → 3 ≡ chip_number strap memory state asked samples drives
-    unfolding chip_number
-    memory_not_whole h = rw (le-ltb 7 strap a, ← is, ne_eqb (length memory) size h)
-
-    module _ (b : length memory ≡ size) where
-      whole : eqb (length memory) (geometry_of Large).size ≡ true
-      whole = eq-eqb (length memory) (geometry_of Large).size (b ∙ is)
-
-      pub state_not_four : (length state ≡ 4 → ⊥) → 3 ≡ chip_number strap memory state asked samples drives
-      unfolding chip_number
-      state_not_four h = rw (le-ltb 7 strap a, whole, ne_eqb (length state) 4 h)
-
-      module _ (c : length state ≡ 4) (p busy : ℕ) (right : Bool) (pe : p ≡ word_at state 0) (be : busy ≡ word_at state 2) (re : right ≡ (ltb p (geometry_of Large).size && leb busy most_busy)) where
-        told : right ≡ state_right (body_from strap Large memory state 0)
-        told = re ∙ rw (pe, be)
-
-        pub state_not_right : not right ≡ true → 4 ≡ chip_number strap memory state asked samples drives
-        unfolding chip_number
-        state_not_right h = rw (le-ltb 7 strap a, whole, eq-eqb (length state) 4 c, ← told, h)
-
-        module _ (d : not right ≡ false) where
-          pub asked_too_long : 20000 < asked → 6 ≡ chip_number strap memory state asked samples drives
-          unfolding chip_number most_busy
-          asked_too_long h = rw (le-ltb 7 strap a, whole, eq-eqb (length state) 4 c, ← told, d, lt-ltb 20000 asked h)
-
-          module _ (e : asked ≤ 20000) (fine : Bool) (fe : fine ≡ all_within 3 samples) where
-            pub sample_too_large : not fine ≡ true → 8 ≡ chip_number strap memory state asked samples drives
-            unfolding chip_number most_busy
-            sample_too_large h = rw (le-ltb 7 strap a, whole, eq-eqb (length state) 4 c, ← told, d, le-ltb 20000 asked e, ← fe, h)
-
-            module _ (f : not fine ≡ false) where
-              pub drives_too_short : length drives < length samples → 9 ≡ chip_number strap memory state asked samples drives
-              unfolding chip_number most_busy
-              drives_too_short h =
-                  rw (le-ltb 7 strap a, whole, eq-eqb (length state) 4 c, ← told, d, le-ltb 20000 asked e, ← fe, f, lt-ltb (length drives) (length samples) h)
-
-              pub accepted : length samples ≤ length drives → 0 ≡ chip_number strap memory state asked samples drives
-              unfolding chip_number most_busy
-              accepted h =
-                  rw (le-ltb 7 strap a, whole, eq-eqb (length state) 4 c, ← told, d, le-ltb 20000 asked e, ← fe, f, le-ltb (length drives) (length samples) h)
-
   -- what an accepted call has
-  module _ (n : ℕ) (e : n ≡ chip_number strap memory state asked samples drives) (z : n ≡ 0) where
+  module _ (e : 0 ≡ chip_number strap memory state asked samples drives) where
     abbrev fits_lent : Bool
     fits_lent = eqb (length memory) (geometry_of Large).size && eqb (length state) 4
 
@@ -85,7 +40,7 @@ module _ (strap asked : ℕ) (memory state samples drives : List ℕ) where
 
     after_10 : (no 3 (not fits_lent) then no 4 (not state_in) then no 6 (ltb most_busy asked) then no 8 (bad_sample samples) then no 9 (ltb (length drives) (length samples))) ≡ 0
     unfolding chip_number
-    after_10 = none_later (no 10 (ltb 7 strap)) _ (sym e ∙ z)
+    after_10 = none_later (no 10 (ltb 7 strap)) _ (sym e)
 
     after_3 : (no 4 (not state_in) then no 6 (ltb most_busy asked) then no 8 (bad_sample samples) then no 9 (ltb (length drives) (length samples))) ≡ 0
     after_3 = none_later (no 3 (not fits_lent)) _ after_10
@@ -95,7 +50,7 @@ module _ (strap asked : ℕ) (memory state samples drives : List ℕ) where
 
     pub strap_in : strap ≤ 7
     unfolding chip_number
-    strap_in = ltb-false 7 strap (not_said 9 (ltb 7 strap) (none_first (no 10 (ltb 7 strap)) _ (sym e ∙ z)))
+    strap_in = ltb-false 7 strap (not_said 9 (ltb 7 strap) (none_first (no 10 (ltb 7 strap)) _ (sym e)))
 
     pub whole_memory : length memory ≡ (geometry_of Large).size
     whole_memory =
@@ -117,19 +72,25 @@ pub rests : (eye : Eye) (c : Chip) (name : ℕ) (model : Model) (p busy : ℕ) �
     → (m : List ℕ) → watch_of (record { eye = eye; chip = c; busy = busy }) m ≡ rest_of (body_at name model p busy m)
 rests eye c name model p busy q h m = rw q (ap (λ (k : Core). seeing opened k busy) (h m))
 
--- one tick of the chip with its eye
-pub ticked : (w : Watch) (m n : List ℕ) (asked : ℕ) (l : Lines) (e : Event) (eye : Eye) (k : Chip) (busy : ℕ) → e ≡ event_of w.eye l
-    → ((m : List ℕ) → busy ≡ busy_after asked e (core_of w.chip m) w.busy) → core_of k n ≡ hears (eqb w.busy 0) e (core_of w.chip m)
-    → eye ≡ eye_after w.eye l → watch_of (record { eye = eye; chip = k; busy = busy }) n ≡ (chip asked).tick l (watch_of w m)
-unfolding body_tick
-ticked w m n asked l e eye k busy q b h a = rw (a, ← q, b m) (ap (λ (c : Core). seeing (eye_after w.eye l) c (busy_after asked e (core_of w.chip m) w.busy)) h)
-
 -- one turn of the loop over the samples
 pub turn : (asked i : ℕ) (xs : List ℕ) (w v : Watch) (m n d e : List ℕ) (r : Left (chip asked)) (drive l : Lines) (x : ℕ)
     → leaves (chip asked) i xs (watch_of w m) d ≡ r → drive ≡ hi ∥ sda_of w.chip.stage → x ≡ byte_of drive → e ≡ set d i x → l ≡ lines_of (get_or xs i 0)
     → watch_of v n ≡ (chip asked).tick l (watch_of w m) → i < length xs → leaves (chip asked) (i + 1) xs (watch_of v n) e ≡ r
 turn asked i xs w v m n d e r drive l x inv a b p q t h =
     one_tick (chip asked) i xs (watch_of w m) (watch_of v n) d e refl (t ∙ ap (λ (y : Lines). (chip asked).tick y (watch_of w m)) q) (p ∙ ap (λ (y : ℕ). set d i y) (b ∙ ap byte_of a)) h ∙ inv
+
+-- no refusal has number 0
+numbered : (r : Refusal) → number_of r ≡ 0 → ⊥
+numbered ListTooLong h = omega arith
+numbered ListBroken h = omega arith
+numbered LentLengths h = omega arith
+numbered StateOutOfRange h = omega arith
+numbered HoldTooLong h = omega arith
+numbered BusyTooLong h = omega arith
+numbered AreaTooSmall h = omega arith
+numbered SampleOutOfRange h = omega arith
+numbered DrivesTooShort h = omega arith
+numbered NoSuchStrap h = omega arith
 
 -- a chip has no end of its own: it drives in every tick
 pub drives_always : (asked : ℕ) (xs : List ℕ) (s : Watching) → length (drives_on (chip asked) xs s) ≡ length xs
@@ -138,23 +99,23 @@ drives_always asked [] s = refl
 drives_always asked (x ∷ xs) s = ap suc (drives_always asked xs ((chip asked).tick (lines_of x) s))
 
 module _ (strap asked : ℕ) (memory state samples drives : List ℕ) where
-  pub turned_down_lem : (n : ℕ) → n ≡ chip_number strap memory state asked samples drives → (n ≡ 0 → ⊥)
-      → left_by (record { number = n; ticks = 0 }) memory state drives ≡ chip_alone strap memory state asked samples drives
+  pub turned_down : (r : Refusal) (q : Result ℕ Refusal) → number_of r ≡ chip_number strap memory state asked samples drives → q ≡ Err r
+      → left_by (answer_of q) memory state drives ≡ chip_alone strap memory state asked samples drives
   unfolding chip_alone
-  turned_down_lem n e h = rw (← e, ne_eqb n 0 h)
+  turned_down r q e h = rw (h, ← e, ne_eqb (number_of r) 0 (numbered r))
 
   abbrev first : Watching
   first = rest_of (body_from strap Large memory state 0)
 
-  pub ran : (n p b : ℕ) (w₀ w : Watch) (m d s : List ℕ) → n ≡ chip_number strap memory state asked samples drives → n ≡ 0 → p ≡ word_at state 0
-      → b ≡ word_at state 2 → ((k : List ℕ) → watch_of w₀ k ≡ rest_of (body_at (80 + strap) Large p b k))
+  pub ran : (p b : ℕ) (w₀ w : Watch) (m d s : List ℕ) → 0 ≡ chip_number strap memory state asked samples drives → p ≡ word_at state 0 → b ≡ word_at state 2
+      → ((k : List ℕ) → watch_of w₀ k ≡ rest_of (body_at (80 + strap) Large p b k))
       → watch_of w m ≡ walk (chip asked) samples (watch_of w₀ memory) → d ≡ over (drives_on (chip asked) samples (watch_of w₀ memory)) drives
       → s ≡ over (word_bytes w.chip.store.pointer (word_bytes w.busy [])) state
       → left_by (record { number = 0; ticks = length samples }) m s d ≡ chip_alone strap memory state asked samples drives
   unfolding chip_alone
-  ran n p b w₀ w m d s e z pe be rest we de se =
-      let row : s ≡ state_bytes (watch_of w m).body [] = se ∙ over_whole _ state (sym (four_bytes strap asked memory state samples drives n e z)) in
+  ran p b w₀ w m d s e pe be rest we de se =
+      let row : s ≡ state_bytes (watch_of w m).body [] = se ∙ over_whole _ state (sym (four_bytes strap asked memory state samples drives e)) in
       let same : watch_of w₀ memory ≡ first = rest memory ∙ rw (pe, be) in
       let last : watch_of w m ≡ walk (chip asked) samples first = we ∙ ap (λ (y : Watching). walk (chip asked) samples y) same in
       let wrote : d ≡ over (drives_on (chip asked) samples first) drives = de ∙ ap (λ (y : Watching). over (drives_on (chip asked) samples y) drives) same in
-      rw (← e, z, row, wrote, drives_always asked samples first) (ap (λ (y : Watching). left_by (record { number = 0; ticks = length samples }) y.body.core.kept.memory (state_bytes y.body []) (over (drives_on (chip asked) samples first) drives)) last)
+      rw (← e, row, wrote, drives_always asked samples first) (ap (λ (y : Watching). left_by (record { number = 0; ticks = length samples }) y.body.core.kept.memory (state_bytes y.body []) (over (drives_on (chip asked) samples first) drives)) last)

@@ -67,10 +67,10 @@ right_again m p b e h l =
 module _ (strap asked : ℕ) (memory state samples drives : List ℕ) (ok : chip_number strap memory state asked samples drives ≡ 0) (bytes : all_within 255 memory ≡ true) where
   first_right : Right (body_from strap Large memory state 0)
   first_right =
-      let s = (and-eq-true_iff (ltb (word_at state 0) (geometry_of Large).size) (leb (word_at state 2) most_busy)).0 (right_state strap asked memory state samples drives 0 (sym ok) refl) in
+      let s = (and-eq-true_iff (ltb (word_at state 0) (geometry_of Large).size) (leb (word_at state 2) most_busy)).0 (right_state strap asked memory state samples drives (sym ok)) in
       record {
         model = refl;
-        sound = sound_at_rest (80 + strap) Large (word_at state 0) memory (ltb-true (word_at state 0) (geometry_of Large).size s.0) (whole_memory strap asked memory state samples drives 0 (sym ok) refl) bytes;
+        sound = sound_at_rest (80 + strap) Large (word_at state 0) memory (ltb-true (word_at state 0) (geometry_of Large).size s.0) (whole_memory strap asked memory state samples drives (sym ok)) bytes;
         busy = leb-true (word_at state 2) most_busy s.1;
       }
 
@@ -78,7 +78,7 @@ module _ (strap asked : ℕ) (memory state samples drives : List ℕ) (ok : chip
   last = (walk (chip asked) samples (rest_of (body_from strap Large memory state 0))).body
 
   last_right : Right last
-  last_right = run_right asked samples (rest_of (body_from strap Large memory state 0)) (asked_in strap asked memory state samples drives 0 (sym ok) refl) first_right
+  last_right = run_right asked samples (rest_of (body_from strap Large memory state 0)) (asked_in strap asked memory state samples drives (sym ok)) first_right
 
   -- the memory and the state that it leaves have their lengths, and the state is right: numbers 3 and 4 are not given for them
   pub leaves_memory : length (chip_alone strap memory state asked samples drives).memory ≡ (geometry_of Large).size

@@ -1,8 +1,7 @@
 -- The entry "one chip alone": its refusals in its order, and all that comes out (paper 01, "When the desk says no"). Assumes nothing.
 use Rattle.std.specs.Prelude.{ℕ, false, not, ◌&&◌, cond, List, [], eqb, ltb, length}
 use Rattle.lent.specs.Areas.{over}
-use Rattle.lent.specs.Refusals.{no, ◌then◌}
-use Rattle.lent.specs.declared.Answer.{Answer}
+use Rattle.lent.specs.Refusals.{no, ◌then◌, Answer}
 use Rattle.lines.specs.Levels.{hi, ◌∥◌}
 use Rattle.lines.specs.Events.{event_of, eye_after, opened}
 use Rattle.lines.specs.Records.{Party, walk, drives_on, bad_sample}

@@ -11,10 +11,9 @@ use Rattle.kinds.specs.Kinds.{follow, remain}
 use Rattle.kinds.specs.declared.Quota.{Quota}
 use Rattle.orders.specs.Asking.{get}
 use Rattle.orders.specs.Marks.{written, note_area, read_mark}
-use Rattle.store.specs.Keeping.{steps}
-use Rattle.plain.specs.Plain.{World, listens, byte_goes, value_of, writes_all, reads_one, reads_all, carried}
+use Rattle.store.specs.Keeping.{takes, steps}
+use Rattle.plain.specs.Plain.{World, listens, only, byte_goes, value_of, writes_all, reads_one, reads_all, carried}
 use Rattle.plain.specs.Inside.{cells_of}
-use Rattle.plain.specs.declared.Deed.TheVariants.{Take, Send}
 use Rattle.messages.specs.Inside.{world_of, Goes}
 use Rattle.messages.specs.Along.{bytes_at}
 use Rattle.messages.specs.declared.Run.{Run}
@@ -34,13 +33,13 @@ module _ (a t slot : ℕ) (holds m : List ℕ) where
   none_written list from n x l = rw (sub-zero n, add-zero from)
 
   module _ (list : List ℕ) (from n i : ℕ) (x : Run) (l : List ℕ) (goal : World) (so_far : Writing list from n i x l goal) where
-    pub one_written : i < n → (y : ℕ) (r : Run) (l' : List ℕ) → y ≡ get_or list (from + i) 0 → Goes holds 9 (Take y) a t x r → l' ≡ set l (slot + 1) (i + 1)
+    pub one_written : i < n → (y : ℕ) (r : Run) (l' : List ℕ) → y ≡ get_or list (from + i) 0 → Goes holds 9 (only (listens a t) (takes y)) x r → l' ≡ set l (slot + 1) (i + 1)
         → Writing list from n (i + 1) r l' goal
     unfolding writes_all bytes_at
     one_written h y r l' ye goes le =
         let k : n - i ≡ suc (n - suc i) = omega arith in
         let o : from + suc i ≡ suc (from + i) = omega arith in
-        rw (add-one i, o, byte_went holds (Take y) a t x r goes m l l' (written i y true) slot le) (rw (k, ← ye) at so_far)
+        rw (add-one i, o, byte_went holds (listens a t) (takes y) x r goes m l l' (written i y true) slot le) (rw (k, ← ye) at so_far)
 
     pub all_written : i ≤ n → n ≤ i → world_of x holds m l ≡ goal
     unfolding writes_all bytes_at
@@ -50,19 +49,17 @@ module _ (a t slot : ℕ) (holds m : List ℕ) where
   abbrev pub Reading : (n : ℕ) → Quota → (k : ℕ) → Run → List ℕ → World → Type 0
   Reading n q k x l goal = reads_all (listens a t) slot n q k (world_of x holds m l) ≡ goal
 
-  module _ (q : Quota) (x r : Run) (l l' : List ℕ) (y n : ℕ) (sent : y ≡ value_of (listens a t) (cells_of x.count x.seats m)) (goes : Goes holds 9 Send a t x r)
+  module _ (q : Quota) (x r : Run) (l l' : List ℕ) (y n : ℕ) (sent : y ≡ value_of (listens a t) (cells_of x.chips.count x.chips.seats m)) (goes : Goes holds 9 (only (listens a t) steps) x r)
       (noted : l' ≡ note_area (read_mark q n y) slot l) where
     one_byte : world_of r holds m l' ≡ reads_one (listens a t) slot n q (world_of x holds m l)
     unfolding world_of
     one_byte =
-        byte_went holds Send a t x r goes m l l' (read_mark q n y) slot noted
+        byte_went holds (listens a t) steps x r goes m l l' (read_mark q n y) slot noted
         ∙ ap (λ (z : ℕ). byte_goes (listens a t) steps (read_mark q n z) slot (world_of x holds m l)) sent
 
-    pub one_read : (q₀ : Quota) (k : ℕ) (goal : World) → q ≡ remain q₀ (k - 1) → 0 < k → Reading n q₀ k x l goal → Reading (n + 1) q (k - 1) r l' goal
+    pub one_read : (q₀ : Quota) (k : ℕ) (goal : World) → q ≡ remain q₀ k → Reading n q₀ (suc k) x l goal → Reading (n + 1) q k r l' goal
     unfolding reads_all
-    one_read q₀ k goal qe h so_far =
-        let j : k ≡ suc (k - 1) = omega arith in
-        rw (add-one n, one_byte, qe) (rw j at so_far)
+    one_read q₀ k goal qe so_far = rw (add-one n, one_byte, qe) so_far
 
     pub first_read : (k : ℕ) → n ≡ 0 → k ≡ follow q y
         → reads_all (listens a t) slot 1 q k (world_of r holds m l') ≡ carried (listens a t) slot (get q) (world_of x holds m l)

@@ -6,23 +6,27 @@ use mathlib.Core.List.{List}
 use borrow.Author.Tests.{lt-ltb, le-ltb}
 use lib.ListN.{length, get_or}
 use Rattle.orders.specs.Form.{wait_at}
+use Rattle.store.specs.Keeping.{starts}
 use Rattle.plain.specs.Clock.{pass}
-use Rattle.plain.specs.Plain.{World, messages, started, closes, transactions}
-use Rattle.plain.specs.Inside.{symbol_most}
-use Rattle.messages.specs.Inside.{messages_most, transaction_most, world_of, Comes, Opens, transaction}
+use Rattle.plain.specs.Plain.{World, does, messages, started, closes, transactions}
+use Rattle.plain.specs.Inside.{symbol_most, time_of, Passes, Becomes}
+use Rattle.plain.specs.declared.Time.{Time}
+use Rattle.messages.specs.Inside.{messages_most, transaction_most, world_of, Comes, transaction}
 use Rattle.messages.specs.Along.{slot_of, beyond, slots_at, opened, others, batch_at, next_batch, batches_at}
 use Rattle.messages.specs.declared.Run.{Run}
 use Rattle.messages.specs.declared.Place.{Place}
-use Rattle.messages.proofs.Going.{begun}
+use Rattle.messages.proofs.Going.{waited}
 
-pub whole_so : (holds list : List ℕ) (x : Run) (m l : List ℕ) (p f : Place) (asked low high k : ℕ) (b sent r : Run) (l' m'' l'' : List ℕ)
+pub whole_so : (holds list : List ℕ) (x : Run) (m l : List ℕ) (p f : Place) (asked low high k : ℕ) (t : Time) (b sent r : Run) (l' m'' l'' : List ℕ)
     → low ≡ get_or list (p.at + 1) 0 → high ≡ get_or list (p.at + 2) 0
-    → low < 256 → high < 256 → Opens holds (low + 256 * high + 4) x b → f ≡ opened p → k ≡ others list p
+    → low < 256 → high < 256 → Passes holds (pass (low + 256 * high + 4) (time_of x.time holds)) (x.time.now + (low + 256 * high + 4)) t → b.time ≡ t
+    → Becomes (does starts) x.chips b.chips → f ≡ opened p → k ≡ others list p
     → Comes holds m l' (messages (slots_at k list (beyond list f)) (slot_of list f) (world_of b holds m l)) (b.time.now + messages_most) sent
     → Comes holds m'' l'' (closes asked p.slot (world_of sent holds m l')) (sent.time.now + symbol_most) r
     → Comes holds m'' l'' (transaction asked (batch_at list p) (world_of x holds m l)) (x.time.now + transaction_most) r
-whole_so holds list x m l p f asked low high k b sent r l' m'' l'' le he ls hs o fe ke c d =
-    let t = o.time.soon in
+whole_so holds list x m l p f asked low high k t b sent r l' m'' l'' le he ls hs o bt steps fe ke c d =
+    let begins = o.soon in
+    let now : b.time.now ≡ t.now = ap (λ (z : Time). z.now) bt in
     let u = c.soon in
     let v = d.soon in
     let w : low + 256 * high + 4 ≡ wait_at list p.at + 4 = rw (le, he) in
@@ -32,7 +36,7 @@ whole_so holds list x m l p f asked low high k b sent r l' m'' l'' le he ls hs o
           ∙ ap (closes asked p.slot)
           (c.is ∙ ap₂ (λ (n : ℕ) (q : Place). messages (slots_at n list (beyond list q)) (slot_of list q) (world_of b holds m l)) ke fe
           ∙ ap (messages (slots_at (others list p) list (beyond list (opened p))) (slot_of list (opened p)))
-          (begun holds (low + 256 * high + 4) x b o m l ∙ ap (λ (n : ℕ). started (pass n (world_of x holds m l).clock) (world_of x holds m l)) w));
+          (waited holds x b t bt steps m l (low + 256 * high + 4) o.is ∙ ap (λ (n : ℕ). started (pass n (world_of x holds m l).clock) (world_of x holds m l)) w));
       sound = d.sound;
       soon = omega arith;
     }

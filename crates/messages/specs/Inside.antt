@@ -1,12 +1,10 @@
 -- Inside: the code's run along a list, with what is lent to it, as the rules have it. No entry cites it. Assumes nothing.
-use Rattle.std.specs.Prelude.{ℕ, ◌+◌, ◌*◌, ◌≤◌, ◌≡◌, List, map, length}
+use Rattle.std.specs.Prelude.{ℕ, ◌+◌, ◌*◌, ◌≤◌, ◌≡◌, List, length}
 use Rattle.orders.specs.Results.{Batch}
-use Rattle.store.specs.Keeping.{starts}
 use Rattle.board.specs.Seats.{offset}
 use Rattle.plain.specs.Clock.{symbols, pass}
-use Rattle.plain.specs.Plain.{World, does, messages, started, closes}
-use Rattle.plain.specs.Inside.{symbol_most, time_of, Passes, cells_of, moves}
-use Rattle.plain.specs.declared.Deed.{Deed}
+use Rattle.plain.specs.Plain.{Cell, World, messages, started, closes}
+use Rattle.plain.specs.Inside.{symbol_most, time_of, Passes, cells_of, Becomes}
 use Rattle.messages.specs.declared.Run.{Run}
 
 -- the most ticks that each may take: a byte, 256 bytes, a message, 256 messages, a transaction with its wait
@@ -25,13 +23,12 @@ messages_most = 268435456
 abbrev pub transaction_most : ℕ
 transaction_most = 536870912
 
--- the chips fit into their array, and their parts make up the memory
+-- the chips' parts make up the memory
 pub record Sound (x : Run) (m : List ℕ) : Type 0 where
-  pub few : x.count ≤ 8
-  pub fits : offset x.count x.seats ≡ length m
+  pub fits : offset x.chips.count x.chips.seats ≡ length m
 
 unfoldable pub world_of : Run → (holds memory results : List ℕ) → World
-world_of x holds m l = record { clock = time_of x.time holds; cells = cells_of x.count x.seats m; log = record { area = l } }
+world_of x holds m l = record { clock = time_of x.time holds; cells = cells_of x.chips.count x.chips.seats m; log = record { area = l } }
 
 -- the run is at this world, and not later than so many ticks
 pub record Comes (holds m l : List ℕ) (w : World) (latest : ℕ) (x : Run) : Type 0 where
@@ -39,19 +36,10 @@ pub record Comes (holds m l : List ℕ) (w : World) (latest : ℕ) (x : Run) : T
   pub sound : Sound x m
   pub soon : x.time.now ≤ latest
 
--- k symbols went by, and the chips did a deed
-pub record Goes (holds : List ℕ) (k : ℕ) (d : Deed) (address tick : ℕ) (x r : Run) : Type 0 where
+-- k symbols went by, and each chip took a step
+pub record Goes (holds : List ℕ) (k : ℕ) (h : Cell → Cell) (x r : Run) : Type 0 where
   pub time : Passes holds (symbols k (time_of x.time holds)) (x.time.now + symbol_most * k) r.time
-  pub cells : (m : List ℕ) → cells_of r.count r.seats m ≡ map (moves d address tick) (cells_of x.count x.seats m)
-  pub same : r.count ≡ x.count
-  pub fits : offset r.count r.seats ≡ offset x.count x.seats
-
--- so many ticks went by without a clocked symbol, and every chip dropped its latch
-pub record Opens (holds : List ℕ) (n : ℕ) (x r : Run) : Type 0 where
-  pub time : Passes holds (pass n (time_of x.time holds)) (x.time.now + n) r.time
-  pub cells : (m : List ℕ) → cells_of r.count r.seats m ≡ map (does starts) (cells_of x.count x.seats m)
-  pub same : r.count ≡ x.count
-  pub fits : offset r.count r.seats ≡ offset x.count x.seats
+  pub chips : Becomes h x.chips r.chips
 
 -- one transaction, from its wait to its STOP
 abbrev pub transaction : (asked : ℕ) → Batch → World → World

@@ -1,18 +1,22 @@
 // The plain reading of an accepted list: byte after byte, message after message, transaction after transaction.
-ghost use Rattle.std.specs.Prelude.{◌≡◌, not, ◌||◌, List, ℕ, suc, ◌+◌, ◌*◌, ◌<◌, ◌≤◌, length};
+// Stays: what is lent is a parameter each. Of a struct `job` with the list and the holds each clause would say `job.entry.list.now` for `list.now`, and with
+// the areas what two mutable borrows in it held before and after, where `memory.old` and `results.new` say it now.
+ghost use Rattle.std.specs.Prelude.{◌≡◌, not, ◌||◌, List, ℕ, suc, ◌+◌, ◌*◌, ◌<◌, ◌≤◌, get_or, length};
 ghost use Rattle.kinds.specs.Kinds.{most_bytes, is_critical};
 ghost use Rattle.orders.specs.Asking.{get};
 ghost use Rattle.orders.specs.Marks.{read_mark, note_area};
-ghost use Rattle.plain.specs.Plain.{listens, answered, writes_all, carried, message_if, messages, closes, transactions};
-ghost use Rattle.plain.specs.Inside.{far, symbol_most};
-ghost use Rattle.messages.specs.Inside.{byte_most, bytes_most, message_most, messages_most, transaction_most, world_of, Sound, Comes, Goes, Opens, transaction};
+ghost use Rattle.store.specs.Keeping.{takes, steps, starts};
+ghost use Rattle.plain.specs.Clock.{symbols};
+ghost use Rattle.plain.specs.Plain.{listens, answered, does, only, writes_all, carried, message_if, messages, closes, transactions};
+ghost use Rattle.plain.specs.Inside.{far, symbol_most, time_of, Becomes};
+ghost use Rattle.messages.specs.Inside.{byte_most, bytes_most, message_most, messages_most, transaction_most, world_of, Sound, Comes, Goes, transaction};
 ghost use Rattle.messages.specs.Along.{Within, Few, bytes_at, slot_of, beyond, slots_at, batch_at, batches_at};
 
 use crate::places::{beyond, next_batch, opened, others};
 use crate::{Place, Run};
 use kinds::{Quota, data_of, is_critical, is_write, quota_of};
 use lent::{byte_at, put_at};
-use plain::{Deed, all_move, all_stop, any_listens, value_of};
+use plain::{Call, Time, all_send, all_start, all_stop, all_take, any_listens, value_of};
 
 // A byte read goes into the result area, and its message's count rises.
 fn note_read(quota: Quota, count: u8, byte: u8, slot: usize, results: &mut [u8])
@@ -23,55 +27,67 @@ fn note_read(quota: Quota, count: u8, byte: u8, slot: usize, results: &mut [u8])
     put_at(results, slot + 1, count + 1);
 }
 
-// After a message: its transaction goes on, unless the message was critical and nobody answered.
+// After a message: its transaction goes on, unless the message was critical and nobody answered. Stays: a kind is a byte, as it stands in the list.
 fn goes_on(said: bool, kind: u8) -> bool
     ensures { result ≡ said || not (is_critical kind) }
 {
-    if said { true } else { !is_critical(kind) }
+    said || !is_critical(kind)
 }
 
 impl Run {
-    // So many symbols go by, and the chips do a deed.
-    fn goes(self, symbols: u8, address: u8, tick: usize, deed: Deed, holds: &[u8]) -> Run
-        requires { (self.count ≤ 8) × (self.time.now + symbol_most * symbols ≤ far) }
-        ensures { Goes holds.now symbols deed address tick self result }
+    // A byte written to the chips that listen to a call.
+    fn wrote(self, call: Call, byte: u8, holds: &[u8]) -> Run
+        requires { self.time.now + byte_most ≤ far }
+        ensures { Goes holds.now 9 (only (listens call.address call.tick) (takes byte)) self result }
     {
-        let time = self.time;
-        let seats = self.seats;
-        let later = time.symbols(symbols, holds);
-        let next = all_move(seats, self.count, address, tick, deed);
+        let time = self.time.symbols(9, holds);
+        let chips = all_take(self.chips, call, byte);
+        Run { time, chips }
+    }
+
+    // A byte read from the chips that listen to a call.
+    fn sent(self, call: Call, holds: &[u8]) -> Run
+        requires { self.time.now + byte_most ≤ far }
+        ensures { Goes holds.now 9 (only (listens call.address call.tick) steps) self result }
+    {
         Run {
-            time: later,
-            count: self.count,
-            seats: next,
+            time: self.time.symbols(9, holds),
+            chips: all_send(self.chips, call),
         }
     }
 
-    // The bytes of a write, to the chips at an address that are free at a tick.
+    // START, with which this time has come: every chip drops its latch.
+    fn started(self, time: Time) -> Run
+        ensures time { result.time ≡ time }
+        ensures chips { Becomes (does starts) self.chips result.chips }
+    {
+        Run {
+            time,
+            chips: all_start(self.chips),
+        }
+    }
+
+    // The bytes of a write.
     fn writes(
         self,
-        address: u8,
-        tick: usize,
-        slot: usize,
-        from: usize,
-        n: u8,
+        call: Call,
+        place: Place,
+        count: u8,
         list: &[u8],
         holds: &[u8],
         memory: &[u8],
         results: &mut [u8],
     ) -> Run
-        requires { Sound self memory.now × (self.time.now + byte_most * n ≤ far) × (from ≤ 4294967296) × (slot + 300 ≤ far) }
+        requires { Sound self memory.now × (self.time.now + byte_most * count ≤ far) × Within place }
         ensures { Comes holds.now memory.now results.new
-            (writes_all (listens address tick) slot 0 (bytes_at n list.now from) (world_of self holds.now memory.now results.old))
-            (self.time.now + byte_most * n) result }
+            (writes_all (listens call.address call.tick) place.slot 0 (bytes_at count list.now (place.at + 3)) (world_of self holds.now memory.now results.old))
+            (self.time.now + byte_most * count) result }
     {
         let mut run = self;
-        let mut i: u8 = 0;
-        while i < n {
-            let byte = byte_at(list, from + i as usize);
-            run = run.goes(9, address, tick, Deed::Take(byte), holds);
-            put_at(results, slot + 1, i + 1);
-            i += 1;
+        for i in 0..count {
+            let byte = byte_at(list, place.at + 3 + i as usize);
+            run = run.wrote(call, byte, holds);
+            put_at(results, place.slot + 1, i + 1);
         }
         run
     }
@@ -79,48 +95,50 @@ impl Run {
     // The bytes of a read. How many follow the first is the quota's to say.
     fn reads(
         self,
-        address: u8,
-        tick: usize,
-        slot: usize,
+        call: Call,
+        place: Place,
         quota: Quota,
         holds: &[u8],
         memory: &[u8],
         results: &mut [u8],
     ) -> Run
-        requires { Sound self memory.now × (self.time.now + bytes_most ≤ far) × (slot + 300 ≤ far) × Few quota }
+        requires { Sound self memory.now × (self.time.now + bytes_most ≤ far) × Within place × Few quota }
         ensures { Comes holds.now memory.now results.new
-            (carried (listens address tick) slot (get quota) (world_of self holds.now memory.now results.old))
+            (carried (listens call.address call.tick) place.slot (get quota) (world_of self holds.now memory.now results.old))
             (self.time.now + bytes_most) result }
     {
-        let seats = self.seats;
-        let first = value_of(seats, self.count, address, tick, memory);
-        let mut more = quota.follow(first);
-        let mut run = self.goes(9, address, tick, Deed::Send, holds);
-        note_read(quota, 0, first, slot, results);
+        let first = value_of(self.chips, call, memory);
+        let more = quota.follow(first);
+        let mut run = self.sent(call, holds);
+        note_read(quota, 0, first, place.slot, results);
         let mut left = quota;
-        let mut count: u8 = 1;
-        while 0 < more {
-            more -= 1;
-            left = left.remain(more);
-            let chips = run.seats;
-            let byte = value_of(chips, run.count, address, tick, memory);
-            run = run.goes(9, address, tick, Deed::Send, holds);
-            note_read(left, count, byte, slot, results);
-            count += 1;
+        for i in 0..more {
+            left = left.remain(more - (i + 1));
+            let byte = value_of(run.chips, call, memory);
+            run = run.sent(call, holds);
+            note_read(left, i + 1, byte, place.slot, results);
         }
         run
     }
 
-    // Does a chip answer to the message at a place? That is decided when the eighth bit of the address byte is delivered.
+    // The call of the message at a place.
+    fn call(self, place: Place, list: &[u8], holds: &[u8]) -> Call
+        requires { self.time.now + byte_most ≤ far }
+        ensures address { result.address ≡ get_or list.now place.at 0 }
+        ensures tick { result.tick ≡ (symbols 8 (time_of self.time holds.now)).now }
+    {
+        Call {
+            address: byte_at(list, place.at),
+            tick: self.time.symbols(8, holds).now,
+        }
+    }
+
+    // Does a chip answer to the message at a place?
     fn answered(self, place: Place, list: &[u8], holds: &[u8]) -> bool
-        requires { (self.count ≤ 8) × (self.time.now + byte_most ≤ far) }
+        requires { self.time.now + byte_most ≤ far }
         ensures { (m l : List ℕ) → result ≡ answered (slot_of list.now place) (world_of self holds.now m l) }
     {
-        let time = self.time;
-        let seats = self.seats;
-        let eighth = time.symbols(8, holds);
-        let address = byte_at(list, place.at);
-        any_listens(seats, self.count, address, eighth.now)
+        any_listens(self.chips, self.call(place, list, holds))
     }
 
     // The message at a place, after its START.
@@ -138,44 +156,23 @@ impl Run {
             (message_if (slot_of list.now place) said (world_of self holds.now memory.now results.old))
             (self.time.now + message_most) result }
     {
-        let time = self.time;
-        let seats = self.seats;
-        let eighth = time.symbols(8, holds);
-        let ninth = time.symbols(9, holds);
         let run = Run {
-            time: ninth,
-            count: self.count,
-            seats: seats,
+            time: self.time.symbols(9, holds),
+            ..self
         };
         if !said {
             return run;
         }
-        let address = byte_at(list, place.at);
+        let call = self.call(place, list, holds);
         let kind = byte_at(list, place.at + 1);
         let asked = byte_at(list, place.at + 2);
         put_at(results, place.slot, 1);
         if is_write(kind) {
-            return run.writes(
-                address,
-                eighth.now,
-                place.slot,
-                place.at + 3,
-                data_of(kind, asked),
-                list,
-                holds,
-                memory,
-                results,
-            );
+            let count = data_of(kind, asked);
+            run.writes(call, place, count, list, holds, memory, results)
+        } else {
+            run.reads(call, place, quota_of(kind, asked), holds, memory, results)
         }
-        run.reads(
-            address,
-            eighth.now,
-            place.slot,
-            quota_of(kind, asked),
-            holds,
-            memory,
-            results,
-        )
     }
 
     // A message and those after it. A critical one that is not answered is the last: what comes after it may rest on its bytes.
@@ -196,6 +193,7 @@ impl Run {
         let mut run = self;
         let mut place = first;
         let mut left = others;
+        // Stays: a START stands between two messages and after none, so the test is in the middle; a `for` would have the message a second time.
         loop {
             let said = run.answered(place, list, holds);
             run = run.message(said, place, list, holds, memory, results);
@@ -206,25 +204,9 @@ impl Run {
             if !goes_on(said, kind) {
                 return run;
             }
-            run = run.goes(1, 0, 0, Deed::Start, holds);
+            run = run.started(run.time.symbol(holds));
             place = beyond(list, place);
             left -= 1;
-        }
-    }
-
-    // A wait and the first START: every chip drops its latch.
-    fn opens(self, ticks: usize, holds: &[u8]) -> Run
-        requires { (self.count ≤ 8) × (self.time.now + ticks ≤ far) }
-        ensures { Opens holds.now ticks self result }
-    {
-        let time = self.time;
-        let seats = self.seats;
-        let later = time.pass(ticks, holds);
-        let next = all_move(seats, self.count, 0, 0, Deed::Start);
-        Run {
-            time: later,
-            count: self.count,
-            seats: next,
         }
     }
 
@@ -242,19 +224,13 @@ impl Run {
             (closes asked top (world_of self holds.now memory.old results.old))
             (self.time.now + symbol_most) result }
     {
-        let time = self.time;
-        let seats = self.seats;
-        let end = time.symbol(holds);
-        let next = all_stop(seats, self.count, end.now, asked, memory);
+        let end = self.time.symbol(holds);
+        let chips = all_stop(self.chips, end.now, asked, memory);
         put_at(results, top, 0);
-        Run {
-            time: end,
-            count: self.count,
-            seats: next,
-        }
+        Run { time: end, chips }
     }
 
-    // The transaction at a place.
+    // The transaction at a place: a wait, the first START, its messages, and STOP.
     fn transaction(
         self,
         place: Place,
@@ -269,9 +245,10 @@ impl Run {
             (transaction asked (batch_at list.now place) (world_of self holds.now memory.old results.old))
             (self.time.now + transaction_most) result }
     {
-        let low = byte_at(list, place.at + 1) as usize;
-        let high = byte_at(list, place.at + 2) as usize;
-        let begun = self.opens(low + 256 * high + 4, holds);
+        let low = byte_at(list, place.at + 1);
+        let high = byte_at(list, place.at + 2);
+        let wait = u16::from_le_bytes([low, high]);
+        let begun = self.started(self.time.pass(usize::from(wait) + 4, holds));
         let sent = begun.messages(
             opened(place),
             others(list, place),
@@ -299,6 +276,7 @@ impl Run {
     {
         let mut run = self;
         let mut place = Place { at: 0, slot: 0 };
+        // Stays: it counts no index, since how far one transaction takes is the list's to say.
         while place.at < list.len() {
             run = run.transaction(place, list, holds, asked, memory, results);
             place = next_batch(list, place);

@@ -4,7 +4,7 @@
 mod course;
 mod places;
 
-use board::Seat;
+use board::Chips;
 use plain::Time;
 
 // A place in the list, and the place in the result area that goes with it.
@@ -14,10 +14,9 @@ pub struct Place {
     pub slot: usize,
 }
 
-// A reading under way: the time, and the first `count` chips, whose memory is lent.
+// A reading under way: the time, and the chips, whose memory is lent.
 #[derive(Clone, Copy)]
 pub struct Run {
     pub time: Time,
-    pub count: usize,
-    pub seats: [Seat; 8],
+    pub chips: Chips,
 }

@@ -23,8 +23,7 @@ pub fn beyond(list: &[u8], place: Place) -> Place
 pub fn others(list: &[u8], place: Place) -> u8
     ensures { result ≡ others list.now place }
 {
-    let count = byte_at(list, place.at);
-    if 0 < count { count - 1 } else { 0 }
+    byte_at(list, place.at).saturating_sub(1)
 }
 
 // Where the first message of a transaction stands.
@@ -44,12 +43,9 @@ pub fn next_batch(list: &[u8], place: Place) -> Place
     ensures value { result ≡ next_batch list.now place }
     ensures later { (place.at + 3 ≤ result.at) × (result.at ≤ place.at + 524288) × (result.slot ≤ place.slot + 524288) }
 {
-    let mut left = others(list, place);
-    let first = opened(place);
-    let mut p = beyond(list, first);
-    while 0 < left {
-        p = beyond(list, p);
-        left -= 1;
+    let mut next = beyond(list, opened(place));
+    for _ in 0..others(list, place) {
+        next = beyond(list, next);
     }
-    p
+    next
 }

@@ -6,8 +6,9 @@ use Rattle.kinds.specs.Kinds.{most_bytes, most_messages, most_length, is_write, 
 use Rattle.orders.specs.Form.{breaks, message_at, parse, parsed}
 use Rattle.orders.specs.Results.{slots_of_all, area_of, check_of}
 use Rattle.orders.specs.declared.Rule.TheVariants.{CutShort, Count, Address, Kind, Length}
-use Rattle.orders.specs.declared.Checked.{Checked}
-use Rattle.orders.specs.declared.Checked.TheVariants.{Accepted, Broken}
+use Rattle.orders.specs.declared.ListError.{ListError}
+use Rattle.orders.specs.declared.ListError.TheVariants.{Broken}
+use Rattle.std.proofs.Common.{Result, Ok, Err}
 
 lists : List (List ℕ)
 lists =
@@ -25,20 +26,20 @@ lists =
     ∷ (1 ∷ 0 ∷ 0 ∷ 0x50 ∷ 0 ∷ 0 ∷ 0 ∷ [])
     ∷ []
 
-answers : List Checked
+answers : List (Result ℕ ListError)
 answers =
-    Accepted 0
-    ∷ Broken (breaks 0 Count)
-    ∷ Broken (breaks 2 CutShort)
-    ∷ Broken (breaks 3 Address)
-    ∷ Broken (breaks 4 CutShort)
-    ∷ Broken (breaks 4 Kind)
-    ∷ Broken (breaks 5 Length)
-    ∷ Broken (breaks 5 Length)
-    ∷ Accepted 67
-    ∷ Broken (breaks 7 CutShort)
-    ∷ Broken (breaks 6 CutShort)
-    ∷ Broken (breaks 6 Count)
+    Ok 0
+    ∷ Err (Broken (breaks 0 Count))
+    ∷ Err (Broken (breaks 2 CutShort))
+    ∷ Err (Broken (breaks 3 Address))
+    ∷ Err (Broken (breaks 4 CutShort))
+    ∷ Err (Broken (breaks 4 Kind))
+    ∷ Err (Broken (breaks 5 Length))
+    ∷ Err (Broken (breaks 5 Length))
+    ∷ Ok 67
+    ∷ Err (Broken (breaks 7 CutShort))
+    ∷ Err (Broken (breaks 6 CutShort))
+    ∷ Err (Broken (breaks 6 Count))
     ∷ []
 
 examples : map check_of lists ≡ answers

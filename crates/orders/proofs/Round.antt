@@ -14,7 +14,7 @@ use Rattle.orders.specs.Form.{Message, Transaction, whole, right, message_at, wa
 use Rattle.orders.specs.Places.{Stands, ended, begins, follows}
 use Rattle.orders.specs.Results.{area_of, check_of}
 use Rattle.orders.specs.Bytes.{Bytes, message_bytes, messages_bytes, list_bytes, RightMessage, RightMessages, RightList}
-use Rattle.orders.specs.declared.Checked.TheVariants.{Accepted}
+use Rattle.std.proofs.Common.{Ok}
 use Rattle.orders.proofs.WholeMessage.{message_inv}
 use Rattle.orders.proofs.Stands.{stands_parsed, holds}
 
@@ -94,7 +94,7 @@ unfolding transactions_of
 transactions_back ts ok = rw (read_back ts ok)
 
 -- and accepted, with the area that it has
-pub accepts : (ts : List Transaction) → RightList ts → length (list_bytes ts) ≤ most_bytes → check_of (list_bytes ts) ≡ Accepted (area_of ts)
+pub accepts : (ts : List Transaction) → RightList ts → length (list_bytes ts) ≤ most_bytes → check_of (list_bytes ts) ≡ Ok (area_of ts)
 unfolding check_of
 accepts ts ok h = simp (tests, read_back ts ok)
 
@@ -186,7 +186,7 @@ pub record OfForm (s : List ℕ) (r : ℕ) : Type 0 where
   pub each : RightList (transactions_of s)
   pub area : r ≡ area_of (transactions_of s)
 
-pub accepted : (s : List ℕ) (r : ℕ) → Bytes s → check_of s ≡ Accepted r → OfForm s r
+pub accepted : (s : List ℕ) (r : ℕ) → Bytes s → check_of s ≡ Ok r → OfForm s r
 unfolding messages_bytes
 accepted s r byte e =
     let h = holds s r e in

@@ -14,7 +14,8 @@ use Rattle.orders.specs.Form.{Message, Transaction, Read, whole, broken, breaks,
 use Rattle.orders.specs.Places.{Stands, ended, begins, follows}
 use Rattle.orders.specs.Results.{slots_of_all, area_of, checked_as, check_of}
 use Rattle.orders.specs.declared.Rule.TheVariants.{Count}
-use Rattle.orders.specs.declared.Checked.TheVariants.{Accepted, TooLong}
+use Rattle.orders.specs.declared.ListError.TheVariants.{TooLong}
+use Rattle.std.proofs.Common.{Ok, Err}
 use Rattle.orders.proofs.WholeMessage.{message_inv, message_slots}
 
 -- ---- what is read stands there
@@ -132,11 +133,11 @@ pub record Holds (s : List ℕ) (r : ℕ) : Type 0 where
   -- each message at its place
   pub stands : Stands s 0 [] (transactions_of s)
 
-pub holds : (s : List ℕ) (r : ℕ) → check_of s ≡ Accepted r → Holds s r
+pub holds : (s : List ℕ) (r : ℕ) → check_of s ≡ Ok r → Holds s r
 unfolding check_of transactions_of slots_of_all
 holds s r e = cases (ltb most_bytes (length s)) refl (parsed s) refl e
   where
-    cases : (b : Bool) → ltb most_bytes (length s) ≡ b → (x : Parsed) → parsed s ≡ x → cond b TooLong (checked_as x) ≡ Accepted r → Holds s r
+    cases : (b : Bool) → ltb most_bytes (length s) ≡ b → (x : Parsed) → parsed s ≡ x → cond b (Err TooLong) (checked_as x) ≡ Ok r → Holds s r
     cases true be x xe e = let z : ◌≡◌ {A = ℕ} 0 1 = cc in absurd (omega arith)
     cases false be (wrong k) xe e = let z : ◌≡◌ {A = ℕ} 0 1 = cc in absurd (omega arith)
     cases false be (right (m ∷ ms) ts) xe e = let n = (parsed_stands s (m ∷ ms) ts xe).count in absurd (omega arith)

@@ -1,23 +1,15 @@
--- How the result area is started, turn by turn of the two loops. Assumes nothing.
+-- How the result area is started, turn by turn of the loops that go along the list. Assumes nothing.
 use mathlib.Core.Path.{◌≡◌, refl}
 use mathlib.Core.List.{List}
 use Prim.Native.Nat.{ℕ, zero, suc, ◌+◌, ◌-◌, ◌<◌, ◌≤◌}
 use native.Mathlib.Omega.{arith}
 use lib.ListN.{length, get_or, set}
-use borrow.Author.Fill.{fill_more}
-use borrow.Author.Tests.{lt-ltb, le-ltb}
+use borrow.Author.Tests.{lt-ltb, le-ltb, ltb-true, ltb-false}
+use mathlib.Core.Bool.{Bool, true, false}
+use lib.Dec.{ltb}
 use Rattle.kinds.specs.Kinds.{most_bytes}
 use Rattle.orders.specs.Places.{size_at, room_at}
 use Rattle.orders.specs.Start.{zeroed, outcomes_from, started_of}
-
--- ---- zeros
-
-module _ (a₀ a : List ℕ) (i size : ℕ) (e : a ≡ zeroed i a₀) where
-  pub zero_turn : i < size → size ≤ length a₀ → set a i 0 ≡ zeroed (i + 1) a₀
-  zero_turn l h = rw e (fill_more i 0 a₀ (omega arith))
-
-  pub zero_ends : i ≤ size → size ≤ i → a ≡ zeroed size a₀
-  zero_ends l h = let k : i ≡ size = omega arith in rw k at e
 
 -- ---- outcomes
 
@@ -40,6 +32,15 @@ module _ (s : List ℕ) (left at top : ℕ) (a goal : List ℕ) (w : Leaves s le
       cases (suc n) zero e g = rw (le-ltb at (length s) h) at g
       cases (suc n) (suc l) e g = rw (le-ltb at (length s) h) at g
 
+  -- past the list's end nothing is put
+  pub walk_passes_none : (d r : ℕ) → length s ≤ at → Leaves s (left - 1) (at + d) (top + r) a goal
+  unfolding outcomes_from
+  walk_passes_none d r h = rw (walk_ends h) (record { steps = 1; enough = omega arith; same = stays (left - 1) })
+    where
+      stays : (l : ℕ) → outcomes_from 1 l s (at + d) (top + r) goal ≡ goal
+      stays zero = let g : length s ≤ at + d = omega arith in rw (le-ltb (at + d) (length s) g)
+      stays (suc l) = let g : length s ≤ at + d = omega arith in rw (le-ltb (at + d) (length s) g)
+
   module _ (h : at < length s) where
     pub walk_passes : (d r : ℕ) → 0 < left → d ≡ size_at s at → r ≡ room_at s at → Leaves s (left - 1) (at + d) (top + r) a goal
     unfolding outcomes_from
@@ -58,6 +59,23 @@ module _ (s : List ℕ) (left at top : ℕ) (a goal : List ℕ) (w : Leaves s le
         cases zero l z e g = absurd (omega arith)
         cases (suc n) (suc l) z e g = absurd (omega arith)
         cases (suc n) zero z e g = record { steps = n; enough = omega arith; same = rw (lt-ltb at (length s) h) at g }
+
+-- a transaction's outcome, and then its messages: of the count that stands there none has come yet
+pub walk_begins_one : (s : List ℕ) (at top : ℕ) (a goal : List ℕ) → Leaves s 0 at top a goal → at < length s → (b : List ℕ) → b ≡ set a top 255
+    → Leaves s (get_or s at 0 - 0) (at + 3) (top + 1) b goal
+walk_begins_one s at top a goal w h b e = let z : get_or s at 0 - 0 ≡ get_or s at 0 = omega arith in rw z (walk_puts s 0 at top a goal w h b (omega arith) e)
+
+-- a message of it
+pub walk_passes_one : (s : List ℕ) (n i at top : ℕ) (a goal : List ℕ) → Leaves s (n - i) at top a goal → i < n → (d r : ℕ) → d ≡ size_at s at → r ≡ room_at s at
+    → Leaves s (n - (i + 1)) (at + d) (top + r) a goal
+walk_passes_one s n i at top a goal w l d r de re = cases (ltb at (length s)) refl
+  where
+    k : n - (i + 1) ≡ n - i - 1
+    k = omega arith
+
+    cases : (b : Bool) → ltb at (length s) ≡ b → Leaves s (n - (i + 1)) (at + d) (top + r) a goal
+    cases true e = rw k (walk_passes s (n - i) at top a goal w (ltb-true _ _ e) d r (omega arith) de re)
+    cases false e = rw k (walk_passes_none s (n - i) at top a goal w d r (ltb-false _ _ e))
 
 -- ---- both
 

@@ -13,7 +13,7 @@ use Rattle.orders.specs.Form.{Message, Transaction, transactions_of}
 use Rattle.orders.specs.Places.{Stands, ended, begins, follows}
 use Rattle.orders.specs.Results.{slots_of, slots_of_all, area_of, blank_area, start_area, check_of}
 use Rattle.orders.specs.Start.{outcomes_from, started_of}
-use Rattle.orders.specs.declared.Checked.TheVariants.{Accepted}
+use Rattle.std.proofs.Common.{Ok}
 use Rattle.orders.proofs.WholeMessage.{message_size, message_room, message_below}
 use Rattle.orders.proofs.Stands.{holds}
 
@@ -47,7 +47,7 @@ marks (suc n) {s} (begins {p} {q} {m} {ms} {ts} l c k i st) h pre tail top e =
     rw (lt-ltb p (length s) b, left, x, put) (simp append_assoc (simp append_assoc at r))
 
 -- what a caller has after `check` and its own look at the area's length
-pub starts : (s : List ℕ) (r : ℕ) (a : List ℕ) → check_of s ≡ Accepted r → r ≤ length a → started_of s r a ≡ start_area (transactions_of s) a
+pub starts : (s : List ℕ) (r : ℕ) (a : List ℕ) → check_of s ≡ Ok r → r ≤ length a → started_of s r a ≡ start_area (transactions_of s) a
 unfolding started_of start_area slots_of_all
 starts s r a e h =
     let o = holds s r e in

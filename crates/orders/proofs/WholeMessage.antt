@@ -1,5 +1,5 @@
 -- What a whole message says of the list that it stands in. Assumes nothing.
-use mathlib.Core.Path.{◌≡◌, refl}
+use mathlib.Core.Path.{◌≡◌, refl, ap}
 use mathlib.Core.Bool.{Bool, true, false, cond}
 use mathlib.Core.List.{List}
 use Prim.Native.Nat.{ℕ, ◌+◌, ◌<◌, ◌≤◌}
@@ -15,8 +15,8 @@ use Rattle.orders.specs.Places.{size_at, room_at}
 use Rattle.orders.specs.Check.{found_as}
 use Rattle.orders.specs.declared.Rule.{Rule}
 use Rattle.orders.specs.declared.Break.{Break}
-use Rattle.orders.specs.declared.Found.{Found}
-use Rattle.orders.specs.declared.Found.TheVariants.{Whole, Broken}
+use Rattle.orders.specs.declared.Whole.{Whole}
+use Rattle.std.proofs.Common.{Result, Ok, Err}
 
 -- m stands at p, and q is the place after it
 pub record IsMessage (s : List ℕ) (p : ℕ) (m : Message) (q : ℕ) : Type 0 where
@@ -88,21 +88,22 @@ pub record Learnt (s : List ℕ) (p q n : ℕ) : Type 0 where
   pub later : p + 3 ≤ q
   pub room : q ≤ length s
 
-module _ (s : List ℕ) (p : ℕ) (x : Found) (e : x ≡ found_as (message_at s p)) where
-  pub learnt : (q n : ℕ) → x ≡ Whole q n → Learnt s p q n
-  learnt q n w = cases (message_at s p) refl e
+module _ (s : List ℕ) (p : ℕ) (x : Result Whole Break) (e : x ≡ found_as (message_at s p)) where
+  pub learnt : (w : Whole) → x ≡ Ok w → Learnt s p w.next w.slots
+  learnt w f = cases (message_at s p) refl e
     where
-      cases : (r : Read) → message_at s p ≡ r → x ≡ found_as r → Learnt s p q n
+      cases : (r : Read) → message_at s p ≡ r → x ≡ found_as r → Learnt s p w.next w.slots
       cases (whole m q') i e =
-          let qe : q ≡ q' = cc in
-          let ne : n ≡ slots_of m = cc in
+          let both : ◌≡◌ {A = Whole} w (record { next = q'; slots = slots_of m }) = cc in
+          let qe : w.next ≡ q' = ap (λ (k : Whole). k.next) both in
+          let ne : w.slots ≡ slots_of m = ap (λ (k : Whole). k.slots) both in
           let is = message_inv s p m q' i in
           let next = is.next in
           let f = message_slots s p m q' i in
           record { message = m; is = cc; slots = ne; few = omega arith; later = omega arith; room = omega arith }
       cases (broken b) i e = let z : ◌≡◌ {A = ℕ} 0 1 = cc in absurd (omega arith)
 
-  pub told : (b : Break) → x ≡ Broken b → message_at s p ≡ broken b
+  pub told : (b : Break) → x ≡ Err b → message_at s p ≡ broken b
   told b w = cases (message_at s p) e
     where
       cases : (r : Read) → x ≡ found_as r → r ≡ broken b

@@ -1,10 +1,12 @@
 -- The result area: its size R, how it starts, and where each message's results stand; what the check of a list says (paper 01, "Order lists and
 -- their results", "When the desk says no"). Assumes nothing.
-use Rattle.std.specs.Prelude.{ℕ, ◌+◌, cond, List, [], ◌∷◌, ◌++◌, ltb, length, drop, replicate}
+use Rattle.std.specs.Prelude.{ℕ, ◌+◌, cond, List, [], ◌∷◌, ◌++◌, ltb, length, drop, replicate, Result, Ok, Err}
 use Rattle.kinds.specs.Kinds.{most_bytes, asked_of}
 use Rattle.orders.specs.Form.{Message, Transaction, Parsed, right, wrong, parsed}
-use Rattle.orders.specs.declared.Checked.{Checked}
-use Rattle.orders.specs.declared.Checked.TheVariants.{Accepted, TooLong, Broken}
+use Rattle.lent.specs.declared.Refusal.{Refusal}
+use Rattle.lent.specs.declared.Refusal.TheVariants.{ListTooLong, ListBroken}
+use Rattle.orders.specs.declared.ListError.{ListError}
+use Rattle.orders.specs.declared.ListError.TheVariants.{TooLong, Broken}
 
 -- per message a flag, a count, and a byte per byte asked of a read
 abbrev pub slots_of : Message → ℕ
@@ -51,21 +53,25 @@ batches top (t ∷ ts) =
     ∷ batches (top + (1 + slots_of_all (t.first ∷ t.others))) ts
 
 -- what the check of a list says
-abbrev pub checked_as : Parsed → Checked
-checked_as (right ms ts) = Accepted (area_of ts)
-checked_as (wrong b) = Broken b
+abbrev pub checked_as : Parsed → Result ℕ ListError
+checked_as (right ms ts) = Ok (area_of ts)
+checked_as (wrong b) = Err (Broken b)
 
-unfoldable pub check_of : List ℕ → Checked
-check_of s = cond (ltb most_bytes (length s)) TooLong (checked_as (parsed s))
+unfoldable pub check_of : List ℕ → Result ℕ ListError
+check_of s = cond (ltb most_bytes (length s)) (Err TooLong) (checked_as (parsed s))
+
+-- the refusal that an entry gives for it
+abbrev pub refusal_of : ListError → Refusal
+refusal_of TooLong = ListTooLong
+refusal_of (Broken b) = ListBroken
 
 -- its number on the desk's list, 0 if it is accepted
-abbrev pub list_number : Checked → ℕ
-list_number (Accepted size) = 0
-list_number TooLong = 1
-list_number (Broken b) = 2
+abbrev pub list_number : Result ℕ ListError → ℕ
+list_number (Ok size) = 0
+list_number (Err TooLong) = 1
+list_number (Err (Broken b)) = 2
 
 -- the result area that it asks for
-abbrev pub room_of : Checked → ℕ
-room_of (Accepted size) = size
-room_of TooLong = 0
-room_of (Broken b) = 0
+abbrev pub room_of : Result ℕ ListError → ℕ
+room_of (Ok size) = size
+room_of (Err e) = 0

@@ -1,22 +1,24 @@
 // The order list: which form it has, how large its result area is, and what stands at a place of it.
 #![tactic(auto)]
 
-ghost use Rattle.std.specs.Prelude.{◌≡◌, suc, ◌+◌, ◌-◌, ◌*◌, ◌<◌, ◌≤◌, length};
+ghost use Rattle.std.specs.Prelude.{◌≡◌, suc, ◌+◌, ◌*◌, ◌<◌, ◌≤◌, length, get_or, true, false};
+ghost use Rattle.std.specs.Result.{MatchResult};
 ghost use Rattle.kinds.specs.Kinds.{most_bytes};
-ghost use Rattle.orders.specs.Form.{breaks, message_at};
-ghost use Rattle.orders.specs.Results.{check_of, list_number, room_of};
+ghost use Rattle.orders.specs.Form.{breaks, cut, message_at};
+ghost use Rattle.orders.specs.Results.{check_of, refusal_of, list_number, room_of};
 ghost use Rattle.orders.specs.Check.{found_as, Tells};
 ghost use Rattle.orders.specs.Places.{size_at, room_at};
+ghost use Rattle.orders.specs.declared.ListError.TheVariants.{Broken};
 ghost use Rattle.orders.specs.Start.{zeroed, outcomes_from, started_of};
 
-use kinds::{asked_of, data_of, is_address, is_count, is_kind, is_length, one_less};
-use lent::{byte_at, put_at};
+use kinds::{asked_of, data_of, is_address, is_count, is_kind, is_length};
+use lent::{Refusal, byte_at, put_at};
 
 // The most that a list has in bytes.
 pub const MOST_BYTES: usize = 4096;
 
 // Which rule of the form a list breaks.
-#[derive(Clone, Copy)]
+#[derive(Clone, Copy, Debug, PartialEq, Eq)]
 pub enum Rule {
     CutShort,
     Count,
@@ -26,162 +28,183 @@ pub enum Rule {
 }
 
 // The first byte that breaks the form, and the rule that it breaks. A list that is cut short breaks it at its end.
-#[derive(Clone, Copy)]
+#[derive(Clone, Copy, Debug, PartialEq, Eq)]
 pub struct Break {
     pub place: usize,
     pub rule: Rule,
 }
 
-// What the check of a list says: accepted with the size of the result area, or turned down.
-#[derive(Clone, Copy)]
-pub enum Checked {
-    Accepted(usize),
+// Why a list is turned down.
+#[derive(Clone, Copy, Debug, PartialEq, Eq)]
+pub enum ListError {
     TooLong,
     Broken(Break),
 }
 
-impl Checked {
-    // Its number on the desk's list, 0 if it is accepted.
-    pub fn number(self) -> u8
-        ensures { result ≡ list_number self }
-    {
-        match self {
-            Checked::Accepted(_) => 0,
-            Checked::TooLong => 1,
-            Checked::Broken(_) => 2,
-        }
-    }
+impl From<Break> for ListError {
+    ghost from_gives = { λ b e. e ≡ Broken b };
 
-    // The result area that it asks for, 0 if it is turned down.
-    pub fn room(self) -> usize
-        ensures { result ≡ room_of self }
-    {
-        match self {
-            Checked::Accepted(size) => size,
-            Checked::TooLong => 0,
-            Checked::Broken(_) => 0,
+    fn from(broken: Break) -> ListError {
+        ListError::Broken(broken)
+    }
+}
+
+impl From<ListError> for Refusal {
+    ghost from_gives = { λ e r. r ≡ refusal_of e };
+
+    fn from(error: ListError) -> Refusal {
+        match error {
+            ListError::TooLong => Refusal::ListTooLong,
+            ListError::Broken(_) => Refusal::ListBroken,
         }
     }
 }
 
-// What stands where a message is due: a whole one, with the place after it and its slots in the result area, or a break.
+// The number on the desk's list of what `check` said, 0 if the list is accepted.
+pub fn number(checked: Result<usize, ListError>) -> u8
+    ensures { result ≡ list_number checked }
+{
+    match checked {
+        Ok(_) => 0,
+        Err(error) => u8::from(Refusal::from(error)),
+    }
+}
+
+// The result area that the list asks for, 0 if it is turned down.
+pub fn room(checked: Result<usize, ListError>) -> usize
+    ensures { result ≡ room_of checked }
+{
+    checked.unwrap_or(0)
+}
+
+// A message that stands where one is due: the place after it, and its slots in the result area.
 #[derive(Clone, Copy)]
-enum Found {
-    Whole { next: usize, slots: usize },
-    Broken(Break),
+struct Whole {
+    next: usize,
+    slots: usize,
 }
 
 // ---- the check
 
-fn break_at(place: usize, rule: Rule) -> Break
-    ensures { result ≡ breaks place rule }
+// A list that is cut short breaks its form at its end.
+fn cut_short(list: &[u8]) -> Break
+    ensures { result ≡ cut list.now }
 {
-    Break { place, rule }
+    Break {
+        place: list.len(),
+        rule: Rule::CutShort,
+    }
+}
+
+// The byte that is due at a place.
+fn byte_due(list: &[u8], at: usize) -> Result<u8, Break>
+    ensures { MatchResult result (λ byte. (at < length list.now) × (byte ≡ get_or list.now at 0)) (λ broken. (length list.now ≤ at) × (broken ≡ cut list.now)) }
+{
+    list.get(at).copied().ok_or(cut_short(list))
+}
+
+// What stands at a place keeps a rule, or breaks it.
+fn keeps(rule: Rule, place: usize, right: bool) -> Result<(), Break>
+    ensures { MatchResult result (λ _. right ≡ true) (λ broken. (right ≡ false) × (broken ≡ breaks place rule)) }
+{
+    if right {
+        Ok(())
+    } else {
+        Err(Break { place, rule })
+    }
 }
 
 // The message at a place. A byte that is there is judged before the list is called cut short.
-fn read_one(list: &[u8], at: usize) -> Found
+fn read_one(list: &[u8], at: usize) -> Result<Whole, Break>
     requires { (at ≤ length list.now) × (length list.now ≤ most_bytes) }
     ensures { result ≡ found_as (message_at list.now at) }
 {
-    if list.len() <= at {
-        return Found::Broken(break_at(list.len(), Rule::CutShort));
-    }
-    let address = list[at];
-    if !is_address(address) {
-        return Found::Broken(break_at(at, Rule::Address));
-    }
-    if list.len() <= at + 1 {
-        return Found::Broken(break_at(list.len(), Rule::CutShort));
-    }
-    let kind = list[at + 1];
-    if !is_kind(kind) {
-        return Found::Broken(break_at(at + 1, Rule::Kind));
-    }
-    if list.len() <= at + 2 {
-        return Found::Broken(break_at(list.len(), Rule::CutShort));
-    }
-    let asked = list[at + 2];
-    if !is_length(kind, asked) {
-        return Found::Broken(break_at(at + 2, Rule::Length));
-    }
-    let next = at + 3 + data_of(kind, asked) as usize;
+    let address = byte_due(list, at)?;
+    keeps(Rule::Address, at, is_address(address))?;
+    let kind = byte_due(list, at + 1)?;
+    keeps(Rule::Kind, at + 1, is_kind(kind))?;
+    let asked = byte_due(list, at + 2)?;
+    keeps(Rule::Length, at + 2, is_length(kind, asked))?;
+    let next = at + 3 + usize::from(data_of(kind, asked));
     if list.len() < next {
-        return Found::Broken(break_at(list.len(), Rule::CutShort));
+        return Err(cut_short(list));
     }
-    Found::Whole {
+    Ok(Whole {
         next,
-        slots: 2 + asked_of(kind, asked) as usize,
-    }
+        slots: 2 + usize::from(asked_of(kind, asked)),
+    })
 }
 
-// The list from a place on, where it ends or a transaction begins. `area` is the result area's size so far.
+// The list from a place on, where it ends or a transaction begins. `area` is the result area's size so far. The two functions call each other as the list is
+// told: after a transaction's last message the next transaction begins.
 #[cycle(message_transaction)]
-fn transaction(list: &[u8], at: usize, area: usize) -> Checked
+fn transaction(list: &[u8], at: usize, area: usize) -> Result<usize, Break>
     requires { (at ≤ length list.now) × (length list.now ≤ most_bytes) × (area ≤ 256 * at) }
     ensures { Tells result area 0 list.now at }
 {
     if list.len() <= at {
-        return Checked::Accepted(area);
+        return Ok(area);
     }
     let count = list[at];
-    if !is_count(count) {
-        return Checked::Broken(break_at(at, Rule::Count));
-    }
+    keeps(Rule::Count, at, is_count(count))?;
     if list.len() < at + 3 {
-        return Checked::Broken(break_at(list.len(), Rule::CutShort));
+        return Err(cut_short(list));
     }
-    message(list, at + 3, one_less(count), area + 1)
+    message(list, at + 3, count.saturating_sub(1), area + 1)
 }
 
 // The list from a place on, where a message stands and `left` more of its transaction after it.
 #[cycle(message_transaction)]
-fn message(list: &[u8], at: usize, left: u8, area: usize) -> Checked
+fn message(list: &[u8], at: usize, left: u8, area: usize) -> Result<usize, Break>
     requires { (at ≤ length list.now) × (length list.now ≤ most_bytes) × (area ≤ 256 * at) }
     ensures { Tells result area (suc left) list.now at }
 {
-    match read_one(list, at) {
-        Found::Broken(broken) => Checked::Broken(broken),
-        Found::Whole { next, slots } => {
-            if left == 0 {
-                transaction(list, next, area + slots)
-            } else {
-                message(list, next, left - 1, area + slots)
-            }
-        }
+    let whole = read_one(list, at)?;
+    if left == 0 {
+        transaction(list, whole.next, area + whole.slots)
+    } else {
+        message(list, whole.next, left - 1, area + whole.slots)
     }
 }
 
 // The check of a whole list: what is wrong in it is found before a line is driven or a byte changed.
-pub fn check(list: &[u8]) -> Checked
+pub fn check(list: &[u8]) -> Result<usize, ListError>
     ensures { result ≡ check_of list.now }
 {
     if MOST_BYTES < list.len() {
-        return Checked::TooLong;
+        return Err(ListError::TooLong);
     }
-    transaction(list, 0, 0)
+    Ok(transaction(list, 0, 0)?)
 }
 
 // ---- what stands at a place
 
+// The kind byte and the length byte of the message here.
+fn head_at(list: &[u8], at: u32) -> (u8, u8)
+    ensures { result ≡ (get_or list.now (at + 1) 0, get_or list.now (at + 2) 0) }
+{
+    let place = at as usize;
+    (byte_at(list, place + 1), byte_at(list, place + 2))
+}
+
 // The bytes that the message here takes in the list.
+// Stays: what size_at and room_at had in common is head_at, and each keeps its contract.
 pub fn size_at(list: &[u8], at: u32) -> usize
     ensures value { result ≡ size_at list.now at }
     ensures small { result < 1024 }
 {
-    let kind = byte_at(list, at as usize + 1);
-    let n = byte_at(list, at as usize + 2);
-    3 + data_of(kind, n) as usize
+    let (kind, n) = head_at(list, at);
+    3 + usize::from(data_of(kind, n))
 }
 
 // The places that it has in the result area.
+// Stays: as size_at.
 pub fn room_at(list: &[u8], at: u32) -> usize
     ensures value { result ≡ room_at list.now at }
     ensures small { result < 1024 }
 {
-    let kind = byte_at(list, at as usize + 1);
-    let n = byte_at(list, at as usize + 2);
-    2 + asked_of(kind, n) as usize
+    let (kind, n) = head_at(list, at);
+    2 + usize::from(asked_of(kind, n))
 }
 
 // ---- the start of the result area
@@ -190,11 +213,7 @@ fn clear(area: &mut [u8], size: usize)
     requires { size ≤ length area.old }
     ensures { area.new ≡ zeroed size area.old }
 {
-    let mut i = 0;
-    while i < size {
-        area[i] = 0;
-        i += 1;
-    }
+    area[..size].fill(0);
 }
 
 // 255 at each transaction's place: what stays there says that it was never reached.
@@ -202,21 +221,19 @@ fn outcomes(list: &[u8], area: &mut [u8])
     requires { length list.now ≤ most_bytes }
     ensures { area.new ≡ outcomes_from (suc (length list.now)) 0 list.now 0 0 area.old }
 {
-    let mut at: usize = 0;
-    let mut top: usize = 0;
-    let mut left: u8 = 0;
+    let mut at = 0;
+    let mut top = 0;
+    // Stays: a turn goes over as many bytes as the transaction has, and a `for` goes on by one.
     while at < list.len() {
-        if 0 < left {
+        let count = list[at];
+        put_at(area, top, 255);
+        at += 3;
+        top += 1;
+        for _ in 0..count {
             let place = at as u32;
             at += size_at(list, place);
             top += room_at(list, place);
-            left -= 1;
-            continue;
         }
-        put_at(area, top, 255);
-        left = list[at];
-        at += 3;
-        top += 1;
     }
 }
 
@@ -225,12 +242,8 @@ fn outcomes(list: &[u8], area: &mut [u8])
 pub fn start(list: &[u8], size: usize, area: &mut [u8])
     ensures { area.new ≡ started_of list.now size area.old }
 {
-    if area.len() < size {
-        return;
+    if size <= area.len() && list.len() <= MOST_BYTES {
+        clear(area, size);
+        outcomes(list, area);
     }
-    if MOST_BYTES < list.len() {
-        return;
-    }
-    clear(area, size);
-    outcomes(list, area);
 }

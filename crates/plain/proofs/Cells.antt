@@ -2,50 +2,76 @@
 use Prim.Native.Nat.{ℕ, zero, suc, ◌+◌, ◌-◌, ◌≤◌, ◌<◌}
 use native.Mathlib.Numerals.{add-one}
 use native.Mathlib.Omega.{arith}
-use mathlib.Core.Path.{◌≡◌, refl, ap, ap₂, ◌∙◌}
-use mathlib.Core.Bool.{Bool, true, false}
+use mathlib.Core.Path.{◌≡◌, refl, sym, ap, ap₂, ◌∙◌}
+use mathlib.Core.Bool.{Bool, true, false, ◌||◌}
 use mathlib.Core.List.{List, [], ◌∷◌, map}
-use lib.ListN.{length, get_or, take, drop, length-map, get_or-map, drop_of_length-le}
-use lib.Seq.{drop-cons}
+use lib.ListN.{length, get_or, set, take, drop, length-map, get_or-map, drop_of_length-le}
+use lib.Seq.{drop-cons, set-get_or}
+use Rattle.std.specs.List.{list_any}
+use Rattle.std.proofs.Common.{inl, inr}
+use Rattle.std.proofs.lemmas.Bool.{cases_lt}
+use Rattle.std.proofs.lemmas.Grind.{get_or-set_at}
+use Rattle.std.proofs.lemmas.List.{get_or_default, get_or-set_other}
 use Rattle.store.specs.Keeping.{kept_of, byte_now}
 use Rattle.board.specs.Seats.{parted, size_of, seated, offset}
+use Rattle.board.specs.declared.Chips.{Chips}
 use Rattle.board.specs.declared.Seat.{Seat}
 use Rattle.board.proofs.Seated.{seated_length, seated_at, offset_next, offset_within}
-use Rattle.board.proofs.Done.{done}
 use Rattle.plain.specs.Plain.{Cell, listens, any_of, value_of}
-use Rattle.plain.specs.Inside.{cell_at, cell_on, cells_of, moves, seat_moves}
-use Rattle.plain.specs.declared.Deed.{Deed}
-use Rattle.plain.proofs.Deeds.{moves_so, moves_size}
+use Rattle.plain.specs.Inside.{cell_at, cell_on, cells_of, Steps, Becomes}
 
--- the first n chips have all done a deed
+-- one chip more takes a step: those below i have, the others are as they were
+module _ (R : Seat → Seat → Type 0) (i : ℕ) (xs ys : List Seat) (y e : Seat) (in_list : i < length xs) (there : i < length ys)
+    (rest : (k : ℕ) → i ≤ k → (d : Seat) → get_or ys k d ≡ get_or xs k d) where
+  pub one_steps : ((k : ℕ) → k < i → (d : Seat) → R (get_or xs k d) (get_or ys k d)) → R (get_or ys i e) y
+      → (k : ℕ) → k < i + 1 → (d : Seat) → R (get_or xs k d) (get_or (set ys i y) k d)
+  one_steps so_far now k h d = elim (cases_lt k i) [
+    | inl low ↦ rw (get_or-set_other ys i k y d (λ q. omega arith)) (so_far k low d)
+    | inr high ↦ let q : k ≡ i = omega arith in
+        let was : get_or xs k d ≡ get_or ys i e = ap (λ (j : ℕ). get_or xs j d) q ∙ get_or_default xs i d e in_list ∙ sym (rest i (omega arith) e) in
+        rw (was, get_or-set_at ys i k y d q there) now
+  ]
 
-module _ (d : Deed) (a t : ℕ) where
-  done_cells : (n : ℕ) (xs : List Seat) (m : List ℕ) → cells_of n (done (seat_moves d a t) n xs) m ≡ map (moves d a t) (cells_of n xs m)
-  unfolding cells_of seated done
-  done_cells zero xs m = refl
-  done_cells (suc n) [] m = refl
-  done_cells (suc n) (x ∷ xs) m =
-      rw (moves_size d a t x) (ap₂ ◌∷◌ (moves_so d a t x (take (size_of x) m)) (done_cells n xs (drop (size_of x) m)))
+  -- or stays as it is
+  pub one_stays : y ≡ get_or ys i e → ((k : ℕ) → k < i → (d : Seat) → R (get_or xs k d) (get_or ys k d)) → R (get_or ys i e) y
+      → (k : ℕ) → k < i + 1 → (d : Seat) → R (get_or xs k d) (get_or ys k d)
+  one_stays same so_far now k h d = rw (same, set-get_or ys i e) at (one_steps so_far now k h d)
 
-  pub none_done : (xs : List Seat) → xs ≡ done (seat_moves d a t) 0 xs
-  unfolding done
-  none_done xs = refl
+pub rest_stays : (i : ℕ) (xs ys : List Seat) (y : Seat) → ((k : ℕ) → i ≤ k → (d : Seat) → get_or ys k d ≡ get_or xs k d)
+    → (k : ℕ) → i + 1 ≤ k → (d : Seat) → get_or (set ys i y) k d ≡ get_or xs k d
+rest_stays i xs ys y rest k h d = get_or-set_other ys i k y d (λ q. omega arith) ∙ rest k (omega arith) d
 
-  done_offset : (n : ℕ) (xs : List Seat) → offset n (done (seat_moves d a t) n xs) ≡ offset n xs
-  unfolding offset done
-  done_offset zero xs = refl
-  done_offset (suc n) [] = refl
-  done_offset (suc n) (x ∷ xs) = ap₂ ◌+◌ (moves_size d a t x) (done_offset n xs)
+-- each of the first n chips has taken a step
 
-  module _ (n i : ℕ) (xs₀ xs : List Seat) (so_far : xs ≡ done (seat_moves d a t) i xs₀) (h : i ≤ n) (l : n ≤ i) where
-    same : xs ≡ done (seat_moves d a t) n xs₀
-    same = let e : i ≡ n = omega arith in rw e at so_far
+module _ (h : Cell → Cell) where
+  step_cells : (n : ℕ) (xs ys : List Seat) → n ≤ length xs → n ≤ length ys → ((i : ℕ) → i < n → (d : Seat) → Steps h (get_or xs i d) (get_or ys i d))
+      → (m : List ℕ) → cells_of n ys m ≡ map h (cells_of n xs m)
+  unfolding cells_of seated
+  step_cells zero xs ys r s k m = refl
+  step_cells (suc n) [] ys r s k m = absurd (omega arith)
+  step_cells (suc n) (x ∷ xs) [] r s k m = absurd (omega arith)
+  step_cells (suc n) (x ∷ xs) (y ∷ ys) r s k m =
+      let one = k 0 (omega arith) x in
+      rw one.size (ap₂ ◌∷◌ (one.cell (take (size_of x) m)) (step_cells n xs ys (omega arith) (omega arith) (λ i l d. k (suc i) (omega arith) d) (drop (size_of x) m)))
 
-    pub all_moved : (m : List ℕ) → cells_of n xs m ≡ map (moves d a t) (cells_of n xs₀ m)
-    all_moved m = rw same (done_cells n xs₀ m)
+  step_offset : (n : ℕ) (xs ys : List Seat) → n ≤ length xs → n ≤ length ys → ((i : ℕ) → i < n → (d : Seat) → Steps h (get_or xs i d) (get_or ys i d))
+      → offset n ys ≡ offset n xs
+  unfolding offset
+  step_offset zero xs ys r s k = refl
+  step_offset (suc n) [] ys r s k = absurd (omega arith)
+  step_offset (suc n) (x ∷ xs) [] r s k = absurd (omega arith)
+  step_offset (suc n) (x ∷ xs) (y ∷ ys) r s k =
+      ap₂ ◌+◌ (k 0 (omega arith) x).size (step_offset n xs ys (omega arith) (omega arith) (λ i l d. k (suc i) (omega arith) d))
 
-    pub all_fit : offset n xs ≡ offset n xs₀
-    all_fit = rw same (done_offset n xs₀)
+  pub all_step : (x y : Chips) → length x.seats ≡ 8 → length y.seats ≡ 8 → y.count ≡ x.count
+      → ((i : ℕ) → i < x.count → (d : Seat) → Steps h (get_or x.seats i d) (get_or y.seats i d)) → Becomes h x y
+  all_step x y r s e k =
+      let few = x.few in
+      record {
+        cells = λ m. rw e (step_cells x.count x.seats y.seats (omega arith) (omega arith) k m);
+        count = e;
+        fits = rw e (step_offset x.count x.seats y.seats (omega arith) (omega arith) k);
+      }
 
 -- the chips one by one
 
@@ -81,16 +107,17 @@ module _ (n i : ℕ) (xs : List Seat) (d : Seat) (b z : ℕ) (here : b ≡ offse
   pub part_within : (l : ℕ) → offset n xs ≡ l → b + z ≤ l
   part_within l k = let o = offset_within (i + 1) n xs (omega arith) in let q = next_part in omega arith
 
--- whether one listens, and the byte of the first that does: so far none did
+-- whether one listens
+
+pub any_of_them : (a t n : ℕ) (xs : List Seat) (m : List ℕ) → list_any (λ x. listens a t (cell_at x [])) (take n xs) ≡ any_of (listens a t) (cells_of n xs m)
+unfolding cells_of seated
+any_of_them a t zero xs m = refl
+any_of_them a t (suc n) [] m = refl
+any_of_them a t (suc n) (x ∷ xs) m = ap (λ (b : Bool). listens a t (cell_at x []) || b) (any_of_them a t n xs (drop (size_of x) m))
+
+-- the byte of the first that does: so far none did
 
 module _ (n i : ℕ) (xs : List Seat) (room : n ≤ length xs) (a t : ℕ) (d : Seat) (r : Bool) (looked : r ≡ listens a t (cell_at (get_or xs i d) [])) (h : i < n) where
-  module _ (so_far : (m : List ℕ) → any_of (listens a t) (drop i (cells_of n xs m)) ≡ any_of (listens a t) (cells_of n xs m)) where
-    pub one_listens : r ≡ true → (m : List ℕ) → true ≡ any_of (listens a t) (cells_of n xs m)
-    one_listens e m = rw (cells_from n xs room m i d h, ← looked, e) at (so_far m)
-
-    pub not_this_one : r ≡ false → (m : List ℕ) → any_of (listens a t) (drop (i + 1) (cells_of n xs m)) ≡ any_of (listens a t) (cells_of n xs m)
-    not_this_one e m = rw (add-one i) (rw (cells_from n xs room m i d h, ← looked, e) at (so_far m))
-
   module _ (m : List ℕ) (so_far : value_of (listens a t) (drop i (cells_of n xs m)) ≡ value_of (listens a t) (cells_of n xs m)) where
     pub this_value : r ≡ true → (y b z : ℕ) → b ≡ offset i xs → z ≡ size_of (get_or xs i d) → y ≡ byte_now (kept_of (get_or xs i d).chip.store (take (b + z - b) (drop b m)))
         → y ≡ value_of (listens a t) (cells_of n xs m)
@@ -104,9 +131,5 @@ module _ (n i : ℕ) (xs : List Seat) (room : n ≤ length xs) (a t : ℕ) (d : 
     not_this_value e = rw (add-one i) (rw (cells_from n xs room m i d h, ← looked, e) at so_far)
 
 module _ (n i : ℕ) (xs : List Seat) (room : n ≤ length xs) (a t : ℕ) (h : n ≤ i) where
-  pub none_listens : ((m : List ℕ) → any_of (listens a t) (drop i (cells_of n xs m)) ≡ any_of (listens a t) (cells_of n xs m)) → (m : List ℕ)
-      → false ≡ any_of (listens a t) (cells_of n xs m)
-  none_listens so_far m = rw (cells_end n xs room m i h) at (so_far m)
-
   pub no_value : (m : List ℕ) → value_of (listens a t) (drop i (cells_of n xs m)) ≡ value_of (listens a t) (cells_of n xs m) → 255 ≡ value_of (listens a t) (cells_of n xs m)
   no_value m so_far = rw (cells_end n xs room m i h) at so_far

@@ -1,8 +1,8 @@
 -- No chip comes or goes in a plain reading. Assumes nothing.
 use Prim.Native.Nat.{ℕ, zero, suc, ◌+◌}
-use mathlib.Core.Path.{◌≡◌, refl, sym, ◌∙◌}
+use mathlib.Core.Path.{◌≡◌, refl, ◌∙◌}
 use mathlib.Core.Bool.{Bool, true, false, not, ◌||◌, cond}
-use mathlib.Core.List.{List, [], ◌∷◌, map}
+use mathlib.Core.List.{List, [], ◌∷◌}
 use lib.ListN.{length, length-map}
 use Rattle.kinds.specs.Kinds.{is_critical, follow, remain}
 use Rattle.kinds.specs.declared.Quota.{Quota}
@@ -54,7 +54,3 @@ transactions_count asked (t ∷ ts) w =
     let sent : World = messages t.others t.first begun in
     transactions_count asked ts (closes asked t.top sent) ∙ length-map sent.cells (stores asked (symbol sent.clock).now) ∙ messages_count t.others t.first begun
     ∙ length-map w.cells (does starts)
-
--- what the check says of an array in a struct is said of its values, mapped
-pub unmapped : (X Y : Type 0) (f : X → Y) (l : List X) (n : ℕ) → length (map f l) ≡ n → length l ≡ n
-unmapped X Y f l n e = sym (length-map l f) ∙ e

@@ -1,6 +1,6 @@
 -- Ticks counted symbol by symbol, as the code counts them. Assumes nothing.
 use Prim.Native.Nat.{ℕ, suc, ◌+◌, ◌-◌, ◌<◌, ◌≤◌}
-use native.Mathlib.Nat.{add_assoc, sub-zero}
+use native.Mathlib.Nat.{add_assoc}
 use native.Mathlib.Numerals.{add-one}
 use native.Mathlib.Omega.{arith}
 use mathlib.Core.Path.{◌≡◌, refl, ap}
@@ -32,9 +32,6 @@ module _ (holds : List ℕ) (t : Time) where
   pub passed : (n : ℕ) → Passes holds (pass n (time_of t holds)) (t.now + n) (record { now = t.now + n; next = t.next })
   unfolding time_of pass
   passed n = record { is = refl; soon = omega arith }
-
-pub none_gone : (n : ℕ) (c : Clock) → symbols (n - 0) c ≡ symbols n c
-none_gone n c = rw (sub-zero n)
 
 -- i of n symbols went by
 module _ (holds : List ℕ) (n i : ℕ) (t t' : Time) (goal : Clock) (so_far : symbols (n - i) (time_of t holds) ≡ goal) where

@@ -1,14 +1,13 @@
 -- Inside: the code's time and chips, with what is lent to them, as the rules have them. No entry cites it. Assumes nothing.
-use Rattle.std.specs.Prelude.{ℕ, ◌+◌, ◌≤◌, ◌≡◌, Bool, true, cond, List, [], map, drop}
-use Rattle.store.specs.Keeping.{Kept, kept_of, geo, takes_at, takes, stepped, steps, emptied, starts}
+use Rattle.std.specs.Prelude.{ℕ, ◌≤◌, ◌≡◌, List, map, drop, Option, Some, None}
+use Rattle.store.specs.Keeping.{kept_of}
 use Rattle.store.specs.declared.Store.{Store}
-use Rattle.board.specs.Seats.{Seated, seated}
+use Rattle.board.specs.Seats.{Seated, size_of, seated, offset}
+use Rattle.board.specs.declared.Chips.{Chips}
 use Rattle.board.specs.declared.Seat.{Seat}
 use Rattle.plain.specs.Clock.{Clock}
-use Rattle.plain.specs.Plain.{Cell, listens, only}
+use Rattle.plain.specs.Plain.{Cell}
 use Rattle.plain.specs.declared.Time.{Time}
-use Rattle.plain.specs.declared.Deed.{Deed}
-use Rattle.plain.specs.declared.Deed.TheVariants.{Start, Take, Send}
 
 -- no run gets there: so no sum of ticks or places passes a word
 abbrev pub far : ℕ
@@ -37,29 +36,18 @@ cell_on x = cell_at x.seat x.memory
 unfoldable pub cells_of : ℕ → List Seat → List ℕ → List Cell
 cells_of n xs m = map cell_on (seated n xs m)
 
--- what a chip does at a START, at a byte written to it, at a byte read from it
-abbrev pub store_does : Deed → Store → Store
-store_does Start s = emptied (geo s).lead s
-store_does (Take x) s = takes_at s.want x s
-store_does Send s = stepped s
+-- a chip with its next store, if it has one
+abbrev pub next_of : Seat → Option Store → Seat
+next_of x None = x
+next_of x (Some s) = record { chip = record { stage = x.chip.stage; store = s }; free = x.free }
 
-abbrev pub kept_does : Deed → Kept → Kept
-kept_does Start = starts
-kept_does (Take x) = takes x
-kept_does Send = steps
+-- a step made a chip another one of the same size
+pub record Steps (h : Cell → Cell) (x y : Seat) : Type 0 where
+  pub cell : (m : List ℕ) → cell_at y m ≡ h (cell_at x m)
+  pub size : size_of y ≡ size_of x
 
--- a START is for all, a byte for those that listen
-abbrev pub meant : Deed → (address tick : ℕ) → Cell → Bool
-meant Start a t c = true
-meant (Take x) a t c = listens a t c
-meant Send a t c = listens a t c
-
-unfoldable pub moves : Deed → (address tick : ℕ) → Cell → Cell
-moves d a t = only (meant d a t) (kept_does d)
-
-unfoldable pub seat_moves : Deed → (address tick : ℕ) → Seat → Seat
-seat_moves d a t x = cond (meant d a t (cell_at x [])) (record { chip = record { stage = x.chip.stage; store = store_does d x.chip.store }; free = x.free }) x
-
--- after a STOP: busy for the asked time, if a byte was latched
-abbrev pub busy_until : (asked tick : ℕ) → (due : Bool) → ℕ → ℕ
-busy_until asked t due f = cond due (t + asked) f
+-- and so it did with all chips of a run
+pub record Becomes (h : Cell → Cell) (x y : Chips) : Type 0 where
+  pub cells : (m : List ℕ) → cells_of y.count y.seats m ≡ map h (cells_of x.count x.seats m)
+  pub count : y.count ≡ x.count
+  pub fits : offset y.count y.seats ≡ offset x.count x.seats

@@ -11,16 +11,15 @@ impl Time {
         requires { self.now + symbol_most ≤ far }
         ensures { Passes holds.now (symbol (time_of self holds.now)) (self.now + symbol_most) result }
     {
-        let next = self.next;
-        if next < holds.len() {
+        if self.next < holds.len() {
             Time {
-                now: self.now + 4 + holds[next] as usize,
-                next: next + 1,
+                now: self.now + 4 + holds[self.next] as usize,
+                next: self.next + 1,
             }
         } else {
             Time {
                 now: self.now + 4,
-                next: next,
+                ..self
             }
         }
     }
@@ -31,10 +30,8 @@ impl Time {
         ensures { Passes holds.now (symbols n (time_of self holds.now)) (self.now + symbol_most * n) result }
     {
         let mut time = self;
-        let mut i: u8 = 0;
-        while i < n {
+        for _ in 0..n {
             time = time.symbol(holds);
-            i += 1;
         }
         time
     }
@@ -46,7 +43,7 @@ impl Time {
     {
         Time {
             now: self.now + n,
-            next: self.next,
+            ..self
         }
     }
 }

@@ -4,7 +4,7 @@
 mod chips;
 mod clock;
 
-pub use chips::{all_move, all_stop, any_listens, value_of};
+pub use chips::{all_send, all_start, all_stop, all_take, any_listens, value_of};
 
 // The ticks gone by, and the place in the hold list of the next clocked symbol.
 #[derive(Clone, Copy)]
@@ -13,10 +13,9 @@ pub struct Time {
     pub next: usize,
 }
 
-// What a chip does: at a START it drops its latch; it takes a byte written to it, and has sent a byte read from it.
+// An address, and the tick at which the eighth bit of its byte is delivered: it is decided then who listens.
 #[derive(Clone, Copy)]
-pub enum Deed {
-    Start,
-    Take(u8),
-    Send,
+pub struct Call {
+    pub address: u8,
+    pub tick: usize,
 }

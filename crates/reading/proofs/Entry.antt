@@ -1,29 +1,31 @@
 -- The whole entry: refusals in their order, the board as it is loaded, and what is handed back. Assumes nothing.
-use Prim.Native.Nat.{ℕ, zero, suc, ◌*◌, ◌<◌, ◌≤◌}
+use Prim.Native.Nat.{ℕ, suc, ◌*◌, ◌<◌, ◌≤◌}
 use native.Mathlib.Nat.{sub-zero}
 use native.Mathlib.Omega.{arith}
 use mathlib.Core.Path.{◌≡◌, refl, ap, ap₂, sym, ◌∙◌}
+use mathlib.Core.Bool.{false}
 use mathlib.Core.List.{List, [], ◌∷◌, ◌++◌, map}
-use borrow.Author.Tests.{lt-ltb, le-ltb, ne_eqb}
+use borrow.Author.Tests.{lt-ltb, le-ltb}
 use lib.Count.{ones}
-use lib.Dec.{ltb}
+use lib.Dec.{eqb, ltb}
 use lib.ListN.{length, take}
-use Rattle.lent.specs.Refusals.{no, ◌then◌}
-use Rattle.lent.specs.declared.Answer.{Answer}
+use Rattle.std.specs.Prelude.{Result, Ok, Err}
+use Rattle.lent.specs.Refusals.{answer_of, no, number_of, refused_as, ◌then◌}
+use Rattle.lent.specs.declared.Refusal.{Refusal}
+use Rattle.lent.specs.declared.Refusal.TheVariants.{ListTooLong, ListBroken, LentLengths, StateOutOfRange, HoldTooLong, BusyTooLong, AreaTooSmall, SampleOutOfRange, DrivesTooShort, NoSuchStrap}
 use Rattle.kinds.specs.Kinds.{most_bytes}
 use Rattle.orders.specs.Form.{transactions_of}
-use Rattle.orders.specs.Results.{start_area, check_of}
+use Rattle.orders.specs.Results.{start_area, check_of, refusal_of}
 use Rattle.orders.specs.Start.{started_of}
-use Rattle.orders.specs.declared.Break.{Break}
-use Rattle.orders.specs.declared.Checked.{Checked}
-use Rattle.orders.specs.declared.Checked.TheVariants.{Accepted, TooLong, Broken}
+use Rattle.orders.specs.declared.ListError.{ListError}
+use Rattle.orders.specs.declared.ListError.TheVariants.{TooLong, Broken}
 use Rattle.orders.proofs.Stands.{holds}
 use Rattle.orders.proofs.Starts.{starts}
 use Rattle.board.specs.Marks.{memory_at, bodies, memories, state_row}
 use Rattle.board.specs.Desk.{Outcome, board_number, bus_number}
 use Rattle.board.specs.Seats.{Seated, seated, offset, seats_from, seat_row}
 use Rattle.board.specs.Seats as seats
-use Rattle.board.specs.declared.Seat.{Seat}
+use Rattle.board.specs.declared.Chips.{Chips}
 use Rattle.board.proofs.Range.{board_lengths}
 use Rattle.board.proofs.Loading.{loaded_is, loaded_fits}
 use Rattle.board.proofs.Seated.{all_together}
@@ -54,73 +56,84 @@ unfolding state_row
 states_are t [] = refl
 states_are t (x ∷ xs) = rw (states_are t xs)
 
--- a board that is not turned down has its memory and states whole
-
 -- what the desk turns down
 
-abbrev outcome_of : Answer → (memory states results : List ℕ) → Outcome
-outcome_of r m st l = record { answer = r; memory = m; states = st; results = l }
+-- a refusal has a number, and the first counts
+refused_first : (r : Refusal) (n : ℕ) → (number_of r then n) ≡ number_of r
+refused_first ListTooLong n = refl
+refused_first ListBroken n = refl
+refused_first LentLengths n = refl
+refused_first StateOutOfRange n = refl
+refused_first HoldTooLong n = refl
+refused_first BusyTooLong n = refl
+refused_first AreaTooSmall n = refl
+refused_first SampleOutOfRange n = refl
+refused_first DrivesTooShort n = refl
+refused_first NoSuchStrap n = refl
+
+refused_some : (r : Refusal) → eqb (number_of r) 0 ≡ false
+refused_some ListTooLong = refl
+refused_some ListBroken = refl
+refused_some LentLengths = refl
+refused_some StateOutOfRange = refl
+refused_some HoldTooLong = refl
+refused_some BusyTooLong = refl
+refused_some AreaTooSmall = refl
+refused_some SampleOutOfRange = refl
+refused_some DrivesTooShort = refl
+refused_some NoSuchStrap = refl
+
+abbrev outcome_of : Result ℕ Refusal → (memory states results : List ℕ) → Outcome
+outcome_of r m st l = record { answer = answer_of r; memory = m; states = st; results = l }
 
 module _ (list : List ℕ) (marks : ℕ) (memory states held : List ℕ) (asked : ℕ) (results : List ℕ) where
   abbrev number : ℕ
   number = bus_number list marks memory states held asked results
 
-  turned_down_lem : (n : ℕ) (a : Answer) → number ≡ suc n → a ≡ record { number = suc n; ticks = 0 }
-      → outcome_of a memory states results ≡ plain_run list marks memory states held asked results
+  turned_down_lem : (r : Refusal) → number ≡ number_of r → outcome_of (Err r) memory states results ≡ plain_run list marks memory states held asked results
   unfolding plain_run
-  turned_down_lem n a e ae = rw (e, ne_eqb (suc n) 0 (λ z. omega arith), ae)
+  turned_down_lem r e = rw (e, refused_some r)
 
-  module _ (x : Checked) (checked : x ≡ check_of list) where
-    pub too_long : (a : Answer) → x ≡ TooLong → a ≡ record { number = 1; ticks = 0 }
-        → outcome_of a memory states results ≡ plain_run list marks memory states held asked results
-    unfolding bus_number
-    too_long a c ae = let first : number ≡ 1 = rw (← checked, c) in turned_down_lem 0 a first ae
+  pub list_wrong : (x : Result ℕ ListError) → x ≡ check_of list → (e : ListError) → x ≡ Err e
+      → outcome_of (Err (refusal_of e)) memory states results ≡ plain_run list marks memory states held asked results
+  unfolding bus_number
+  list_wrong x checked TooLong c = turned_down_lem ListTooLong (rw (← checked, c))
+  list_wrong x checked (Broken b) c = turned_down_lem ListBroken (rw (← checked, c))
 
-    pub not_of_the_form : (a : Answer) (b : Break) → x ≡ Broken b → a ≡ record { number = 2; ticks = 0 }
-        → outcome_of a memory states results ≡ plain_run list marks memory states held asked results
-    unfolding bus_number
-    not_of_the_form a b c ae = let first : number ≡ 2 = rw (← checked, c) in turned_down_lem 1 a first ae
-
-  module _ (x : Checked) (checked : x ≡ check_of list) (size : ℕ) (accepted : x ≡ Accepted size) (n : ℕ) (board : n ≡ board_number marks memory states held asked) where
-    right : check_of list ≡ Accepted size
+  module _ (x : Result ℕ ListError) (checked : x ≡ check_of list) (size : ℕ) (accepted : x ≡ Ok size) (b : Result (Unit {0}) Refusal)
+      (board : refused_as b ≡ board_number marks memory states held asked) where
+    right : check_of list ≡ Ok size
     right = sym checked ∙ accepted
 
-    after_list : number ≡ n then no 7 (ltb (length results) size)
+    after_list : number ≡ refused_as b then no 7 (ltb (length results) size)
     unfolding bus_number
     after_list = rw (right, ← board, (holds list size right).area)
 
-    pub board_wrong : (a : Answer) → a ≡ record { number = n; ticks = 0 } → (n ≡ 0 → ⊥)
-        → outcome_of a memory states results ≡ plain_run list marks memory states held asked results
-    board_wrong a ae h = cases n after_list ae h
-      where
-        cases : (k : ℕ) → number ≡ k then no 7 (ltb (length results) size) → a ≡ record { number = k; ticks = 0 } → (k ≡ 0 → ⊥)
-            → outcome_of a memory states results ≡ plain_run list marks memory states held asked results
-        cases zero e ae h = absurd (h refl)
-        cases (suc k) e ae h = turned_down_lem k a e ae
+    pub board_wrong : (r : Refusal) → b ≡ Err r → outcome_of (Err r) memory states results ≡ plain_run list marks memory states held asked results
+    board_wrong r e = turned_down_lem r (after_list ∙ rw e (refused_first r (no 7 (ltb (length results) size))))
 
-    module _ (fine : n ≡ 0) where
-      pub area_too_small : (a : Answer) → a ≡ record { number = 7; ticks = 0 } → length results < size
-          → outcome_of a memory states results ≡ plain_run list marks memory states held asked results
-      area_too_small a ae h = turned_down_lem 6 a (after_list ∙ rw (fine, lt-ltb (length results) size h)) ae
+    module _ (u : Unit {0}) (fine : b ≡ Ok u) where
+      pub area_too_small : length results < size → outcome_of (Err AreaTooSmall) memory states results ≡ plain_run list marks memory states held asked results
+      area_too_small h = turned_down_lem AreaTooSmall (after_list ∙ rw (fine, lt-ltb (length results) size h))
 
       -- accepted
       module _ (room : size ≤ length results) where
         none_wrong : number ≡ 0
         none_wrong = after_list ∙ rw (fine, le-ltb (length results) size room)
 
-        module _ (xs : List Seat) (k : ℕ) (begun_area : List ℕ) (started : begun_area ≡ started_of list size results) (loaded : take (ones marks) xs ≡ seats_from marks states 8 0)
-            (count : k ≡ ones marks) (few : k ≤ 8) (all : length xs ≡ 8) where
+        module _ (c : Chips) (begun_area : List ℕ) (started : begun_area ≡ started_of list size results) (loaded : take (ones marks) c.seats ≡ seats_from marks states 8 0)
+            (count : c.count ≡ ones marks) (all : length c.seats ≡ 8) where
           abbrev begun : Run
-          begun = record { time = record { now = 0; next = 0 }; count = k; seats = xs }
+          begun = record { time = record { now = 0; next = 0 }; chips = c }
 
-          seen : ones marks ≤ length xs
-          seen = omega arith
+          seen : ones marks ≤ length c.seats
+          seen = let few = c.few in omega arith
 
           wide : (length memory ≡ memory_at marks 8) × (length states ≡ 4 * ones marks)
-          wide = board_lengths marks memory states held asked (sym board ∙ fine)
+          wide = board_lengths marks memory states held asked (sym board ∙ ap refused_as fine)
 
           pub begun_sound : Sound begun memory
-          begun_sound = record { few = few; fits = ap (λ (n : ℕ). offset n xs) count ∙ loaded_fits marks memory states xs loaded seen ∙ sym wide.0 }
+          begun_sound = record { fits = ap (λ (n : ℕ). offset n c.seats) count ∙ loaded_fits marks memory states c.seats loaded seen ∙ sym wide.0 }
 
           pub short : length list ≤ most_bytes
           short = (holds list size right).short
@@ -130,35 +143,35 @@ module _ (list : List ℕ) (marks : ℕ) (memory states held : List ℕ) (asked 
           unfolding world_of time_of cells_of
           first_world =
               ap₂ (λ (cs : List Cell) (l : List ℕ). record { clock = record { now = 0; holds = held }; cells = cs; log = record { area = l } })
-              (ap (λ (n : ℕ). map cell_on (seated n xs memory)) count ∙ sym (cells_are (seated (ones marks) xs memory)) ∙ ap (map cell_of) (loaded_is marks memory states xs loaded seen))
+              (ap (λ (n : ℕ). map cell_on (seated n c.seats memory)) count ∙ sym (cells_are (seated (ones marks) c.seats memory)) ∙ ap (map cell_of) (loaded_is marks memory states c.seats loaded seen))
               (started ∙ starts list size results right room)
 
           module _ (r : Run) (m l : List ℕ) (ended : Comes held m l (transactions asked (batches_at (suc (length list)) list (record { at = 0; slot = 0 })) (world_of begun held memory begun_area)) far r)
-              (all_left : length r.seats ≡ 8) where
+              (all_left : length r.chips.seats ≡ 8) where
             last_world : world_of r held m l ≡ plain list marks memory states held asked results
             unfolding plain
             last_world = ended.is ∙ ap₂ (transactions asked) (listed (suc (length list)) (holds list size right).stands (omega arith) 0) first_world
 
-            left : r.count ≤ length r.seats
-            left = let f = ended.sound.few in omega arith
+            left : r.chips.count ≤ length r.chips.seats
+            left = let few = r.chips.few in omega arith
 
             -- no chip came or went
-            same_count : r.count ≡ k
+            same_count : r.chips.count ≡ c.count
             unfolding world_of
             same_count =
-                sym (cells_length r.count r.seats left m) ∙ ap (λ (w : World). length w.cells) ended.is
+                sym (cells_length r.chips.count r.chips.seats left m) ∙ ap (λ (w : World). length w.cells) ended.is
                 ∙ transactions_count asked (batches_at (suc (length list)) list (record { at = 0; slot = 0 })) (world_of begun held memory begun_area)
-                ∙ cells_length k xs (let s = seen in omega arith) memory
+                ∙ cells_length c.count c.seats (let s = seen in omega arith) memory
 
-            pub row_long : length states ≡ 4 * r.count
+            pub row_long : length states ≡ 4 * r.chips.count
             row_long = wide.1 ∙ ap (λ (n : ℕ). 4 * n) (sym (same_count ∙ count))
 
-            pub ran_so : (st : List ℕ) → st ≡ seat_row r.time.now r.count r.seats
-                → outcome_of (record { number = 0; ticks = r.time.now }) m st l ≡ plain_run list marks memory states held asked results
+            pub ran_so : (st : List ℕ) → st ≡ seat_row r.time.now r.chips.count r.chips.seats
+                → outcome_of (Ok r.time.now) m st l ≡ plain_run list marks memory states held asked results
             unfolding plain_run world_of time_of cells_of
             ran_so st se =
                 let t : ℕ = r.time.now in
-                let ys : List Seated = seated r.count r.seats m in
-                let me : memories (map (body_of t) (map cell_on ys)) ≡ m = memories_are t ys ∙ all_together t r.count r.seats m left (sym ended.sound.fits) in
-                let ste : state_row (map (body_of t) (map cell_on ys)) ≡ st = states_are t ys ∙ seat_row_lem t r.count r.seats m ∙ sym se in
+                let ys : List Seated = seated r.chips.count r.chips.seats m in
+                let me : memories (map (body_of t) (map cell_on ys)) ≡ m = memories_are t ys ∙ all_together t r.chips.count r.chips.seats m left (sym ended.sound.fits) in
+                let ste : state_row (map (body_of t) (map cell_on ys)) ≡ st = states_are t ys ∙ seat_row_lem t r.chips.count r.chips.seats m ∙ sym se in
                 rw (none_wrong, ← last_world) (ap₂ (λ (a b : List ℕ). record { answer = record { number = 0; ticks = t }; memory = a; states = b; results = l }) (sym me) (sym ste))

@@ -7,6 +7,7 @@ use mathlib.Core.List.{List, [], ◌∷◌}
 use native.Mathlib.Omega.{arith}
 use native.Mathlib.Nat.{mod-lt}
 use borrow.Author.Tests.{le-leb, leb-true, ltb-true}
+use Rattle.std.proofs.Common.{Option, None, Some}
 use lib.Dec.{ltb, leb}
 use lib.ListN.{length, get_or, set, length-set}
 use lib.Seq.{get_or-set_same, get_or-set_other}
@@ -33,17 +34,18 @@ within_set n (y ∷ m) (suc i) x l h =
     (and-eq-true_iff (leb y n) (all_within n (set m i x))
     ).1 (((and-eq-true_iff (leb y n) (all_within n m)).0 h).0, within_set n m i x l ((and-eq-true_iff (leb y n) (all_within n m)).0 h).1)
 
-within_one : (m : List ℕ) (at v : ℕ) → all_within 255 m ≡ true → all_within 255 (store_one m at v) ≡ true
-within_one m at v h = go (ltb v 256) refl
+within_one : (m : List ℕ) (at : ℕ) (b : Option ℕ) → all_within 255 m ≡ true → all_within 255 (store_one m at b) ≡ true
+within_one m at None h = h
+within_one m at (Some v) h = go (ltb v 256) refl
   where
     go : (q : Bool) → ltb v 256 ≡ q → all_within 255 (cond q (set m at v) m) ≡ true
     go true e = let l : v < 256 = ltb-true v 256 e in within_set 255 m at v (omega arith) h
     go false e = h
 
-within_stored : (k base : ℕ) (l m : List ℕ) → all_within 255 m ≡ true → all_within 255 (stored k base l m) ≡ true
+within_stored : (k base : ℕ) (l : List (Option ℕ)) (m : List ℕ) → all_within 255 m ≡ true → all_within 255 (stored k base l m) ≡ true
 unfolding stored
 within_stored zero base l m h = h
-within_stored (suc k) base l m h = within_one (stored k base l m) (base + k) (get_or l k 256) (within_stored k base l m h)
+within_stored (suc k) base l m h = within_one (stored k base l m) (base + k) (get_or l k None) (within_stored k base l m h)
 
 -- what is so from the first tick on
 pub record Sound (k : Kept) : Type 0 where
@@ -87,7 +89,7 @@ takes_tame x = record { name = λ k. names k.store.want k.store; model = λ k. m
         record {
           pointer = page_in (fits k.store.model) k.store.pointer s.pointer;
           memory = s.memory;
-          latch = length-set k.store.latch (k.store.pointer % (geo k.store).page) x ∙ s.latch;
+          latch = length-set k.store.latch (k.store.pointer % (geo k.store).page) (Some x) ∙ s.latch;
           bytes = s.bytes;
         }
     sounds (suc zero) k s =
@@ -163,15 +165,15 @@ module _ (x : ℕ) (k : Kept) (s : Sound k) (ready : k.store.want ≡ 0) where
       let l : k.store.pointer % (geo k.store).page < (geo k.store).page = mod-lt k.store.pointer f.some in
       omega (arith, f.narrow, s.latch)
 
-  pub last_wins : get_or (takes x k).store.latch (k.store.pointer % (geo k.store).page) 256 ≡ x
+  pub last_wins : get_or (takes x k).store.latch (k.store.pointer % (geo k.store).page) None ≡ Some x
   last_wins =
-      ap (λ (y : Kept). get_or y.store.latch (k.store.pointer % (geo k.store).page) 256) is_taken_lem
-      ∙ get_or-set_same k.store.latch (k.store.pointer % (geo k.store).page) x 256 in_latch
+      ap (λ (y : Kept). get_or y.store.latch (k.store.pointer % (geo k.store).page) None) is_taken_lem
+      ∙ get_or-set_same k.store.latch (k.store.pointer % (geo k.store).page) (Some x) None in_latch
 
-  pub others_stay : (j : ℕ) → (j ≡ k.store.pointer % (geo k.store).page → ⊥) → get_or (takes x k).store.latch j 256 ≡ get_or k.store.latch j 256
+  pub others_stay : (j : ℕ) → (j ≡ k.store.pointer % (geo k.store).page → ⊥) → get_or (takes x k).store.latch j None ≡ get_or k.store.latch j None
   others_stay j h =
-      ap (λ (y : Kept). get_or y.store.latch j 256) is_taken_lem
-      ∙ get_or-set_other k.store.latch (k.store.pointer % (geo k.store).page) j x 256 h
+      ap (λ (y : Kept). get_or y.store.latch j None) is_taken_lem
+      ∙ get_or-set_other k.store.latch (k.store.pointer % (geo k.store).page) j (Some x) None h
 
   -- so a byte that is taken and stored stands where the pointer was
   pub written : (d : ℕ) → x < 256 → get_or (stops true (takes x k)).memory k.store.pointer d ≡ x
@@ -179,9 +181,9 @@ module _ (x : ℕ) (k : Kept) (s : Sound k) (ready : k.store.want ≡ 0) where
       let f : Fits (geo k.store) = fits k.store.model in
       let p : ℕ = k.store.pointer in
       let taken : Kept = with_store (takes_at 0 x k.store) k in
-      let same : get_or taken.store.latch (p % (geo k.store).page) 256 ≡ x = get_or-set_same k.store.latch (p % (geo k.store).page) x 256 in_latch in
+      let same : get_or taken.store.latch (p % (geo k.store).page) None ≡ Some x =
+      get_or-set_same k.store.latch (p % (geo k.store).page) (Some x) None in_latch in
       let whole : page_start (geo k.store) (page_step (geo k.store) p) + (geo k.store).page ≤ length k.memory =
       rw s.memory (page_whole f (page_step (geo k.store) p) (page_in f p s.pointer)) in
       ap (λ (y : Kept). get_or (stops true y).memory p d) is_taken_lem
-      ∙ latched taken p d (sym (page_kept f p)) f.some whole (rw same h)
-      ∙ same
+      ∙ latched taken p d (sym (page_kept f p)) x f.some whole same h

@@ -2,7 +2,7 @@
 use Prim.Native.Nat.{ℕ, ◌+◌, ◌*◌, ◌/◌, ◌%◌, ◌≤◌, ◌<◌}
 use mathlib.Core.Path.{◌≡◌, refl, ap, ◌∙◌}
 use native.Mathlib.Omega.{arith}
-use native.Mathlib.Nat.{mul-add-div_right, mul-add-mod_self_right, mod-lt, mod-le, mod-mod, mod-add-mod, div-eq_of_lt, div-lt_iff_lt-mul, div-mul-le_self, add-zero, suc-mul, mul-le-mul_right}
+use native.Mathlib.Nat.{mul-add-div_right, mul-add-mod_self_right, mod-lt, mod-mod, mod-add-mod, div-eq_of_lt, div-lt_iff_lt-mul, add-zero, suc-mul, mul-le-mul_right}
 use Rattle.store.specs.Pages.{Geometry, Shape, geometry_of, page_start, page_step, read_step, pointer_of}
 use Rattle.store.specs.declared.Model.{Model}
 use Rattle.store.specs.declared.Model.TheVariants.{Large}
@@ -81,37 +81,9 @@ lead_shape Large = record { is = refl; least = omega arith; most = omega arith }
 
 -- the steps as they are reckoned: the place in the page first, so that no sum passes a word
 module _ (m : Model) (page : ℕ) (is : page ≡ (geometry_of m).page) where
-  pub start_reckoned : (p : ℕ) → p / page * page ≡ page_start (geometry_of m) p
-  unfolding page_start
-  start_reckoned p = rw is
-
-  pub place_shape : (p : ℕ) → 1 ≤ page → page ≤ 32 → Shape 0 31 (p % page) (p % (geometry_of m).page)
-  place_shape p l h = let k : p % page < page = mod-lt p l in record { is = rw is; least = omega arith; most = omega arith }
-
   pub step_reckoned : (p : ℕ) → p / page * page + (p % page + 1) % page ≡ page_step (geometry_of m) p
   unfolding page_step page_start
   step_reckoned p = rw (is, mod-add-mod p (geometry_of m).page 1)
 
   pub step_fits : (p : ℕ) → p < 65536 → p / page * page + (p % page + 1) % page < 65536
   step_fits p h = rw (step_reckoned p) (page_fits (fits m) p h)
-
-pub place_wide : (p page : ℕ) → p < 65536 → p % page < 18446744073709551616
-place_wide p page h = let l : p % page ≤ p = mod-le p page in omega arith
-
-pub start_fits : (p page : ℕ) → p < 65536 → p / page * page < 65536
-start_fits p page h = let l : p / page * page ≤ p = div-mul-le_self p page in omega arith
-
-pub place_fits : (p page : ℕ) → 1 ≤ page → page ≤ 32 → p % page + 1 < 65536
-place_fits p page l h = let k : p % page < page = mod-lt p l in omega arith
-
-module _ (m : Model) (size : ℕ) (is : size ≡ (geometry_of m).size) where
-  pub read_reckoned : (p : ℕ) → (p + 1) % size ≡ read_step (geometry_of m) p
-  unfolding read_step
-  read_reckoned p = rw is
-
-  pub pointer_reckoned : (high low : ℕ) → (high * 256 + low) % size ≡ pointer_of (geometry_of m) high low
-  unfolding pointer_of
-  pointer_reckoned high low = rw is
-
-pub read_fits : (p size : ℕ) → 1 ≤ size → size ≤ 4096 → (p + 1) % size < 65536
-read_fits p size l h = let k : (p + 1) % size < size = mod-lt (p + 1) l in omega arith

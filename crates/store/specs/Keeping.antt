@@ -1,6 +1,6 @@
 -- What a chip keeps from byte to byte, and the four ways in which it changes: a byte taken, a byte sent, START, STOP. The chip on the wires and the
 -- plain reading have it alike (paper 01, "What the chip does"). Assumes nothing.
-use Rattle.std.specs.Prelude.{ℕ, zero, suc, ◌+◌, ◌%◌, Bool, true, false, cond, List, ltb, get_or, set, replicate}
+use Rattle.std.specs.Prelude.{ℕ, zero, suc, ◌+◌, ◌%◌, Bool, true, false, cond, Option, None, Some, List, ltb, get_or, set, replicate}
 use Rattle.store.specs.Pages.{Geometry, geometry_of, page_start, page_step, read_step, pointer_of}
 use Rattle.store.specs.declared.Model.{Model}
 use Rattle.store.specs.declared.Store.{Store}
@@ -17,8 +17,8 @@ abbrev pub geo : Store → Geometry
 geo s = geometry_of s.model
 
 -- nothing is latched
-unfoldable pub blank_latch : List ℕ
-blank_latch = replicate 32 256
+unfoldable pub blank_latch : List (Option ℕ)
+blank_latch = replicate 32 None
 
 -- before the first byte
 abbrev pub kept_at : (name : ℕ) → Model → (pointer : ℕ) → List ℕ → Kept
@@ -42,7 +42,7 @@ takes_at zero x s =
       want = 0;
       high = 0;
       latched = true;
-      latch = set s.latch (s.pointer % (geo s).page) x;
+      latch = set s.latch (s.pointer % (geo s).page) (Some x);
     }
 
 unfoldable pub takes : ℕ → Kept → Kept
@@ -76,14 +76,15 @@ emptied n s = record { name = s.name; model = s.model; pointer = s.pointer; want
 unfoldable pub starts : Kept → Kept
 starts k = with_store (emptied (geo k.store).lead k.store) k
 
--- a place of the page, if something is latched for it
-abbrev pub store_one : List ℕ → ℕ → ℕ → List ℕ
-store_one m at v = cond (ltb v 256) (set m at v) m
+-- a place of the page, if something is latched for it; a number past 255 would be no byte
+abbrev pub store_one : List ℕ → ℕ → Option ℕ → List ℕ
+store_one m at None = m
+store_one m at (Some v) = cond (ltb v 256) (set m at v) m
 
 -- the first k places of the latch, from the page's first byte on
-unfoldable pub stored : ℕ → ℕ → List ℕ → List ℕ → List ℕ
+unfoldable pub stored : ℕ → ℕ → List (Option ℕ) → List ℕ → List ℕ
 stored zero base latch m = m
-stored (suc k) base latch m = store_one (stored k base latch m) (base + k) (get_or latch k 256)
+stored (suc k) base latch m = store_one (stored k base latch m) (base + k) (get_or latch k None)
 
 -- STOP stores the latch, if a store is due, and empties it
 unfoldable pub stops : Bool → Kept → Kept

@@ -4,7 +4,7 @@
 mod keeping;
 
 // The parts that there are. What tells one from another stands in specs/Pages.antt.
-#[derive(Clone, Copy)]
+#[derive(Clone, Copy, Debug, PartialEq, Eq)]
 pub enum Model {
     Large,
 }
@@ -17,9 +17,10 @@ pub struct Store {
     pub pointer: u16,
     // pointer bytes still to come in this message
     pub want: u8,
-    // the one that came
+    // the one that came. Stays: specs/Keeping.takes_at counts down `want`, by Pages.Geometry.lead bytes, and keeps this one beside it
     pub high: u8,
+    // whether a byte is latched. Stays: eeprom/specs/Stages.due and plain/specs/Plain.stores read it, and not the latch
     pub latched: bool,
-    // by place in the page; 256, which is no byte, where nothing is latched
-    pub latch: [u16; 32],
+    // by place in the page
+    pub latch: [Option<u8>; 32],
 }

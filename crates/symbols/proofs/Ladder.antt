@@ -1,32 +1,13 @@
 -- The fault that is named, a law for each. The premises are what the tests answered, in the order in which they are looked at. Assumes nothing.
-use Prim.Native.Nat.{ℕ}
-use mathlib.Core.Path.{◌≡◌}
-use mathlib.Core.Bool.{Bool, true, false, not, ◌&&◌, beq}
-use lib.Dec.{leb}
-use Rattle.lines.specs.Levels.{most_held}
+use Rattle.std.proofs.Common.{◌≡◌, Bool, true, false, Some, None}
 use Rattle.lines.specs.declared.Lines.{Lines}
 use Rattle.symbols.specs.Symbols.{drives}
-use Rattle.symbols.specs.Faults.{is_broken, is_first, is_taken, is_stuck, is_bit, is_undefined, is_lost, fault_of}
-use Rattle.symbols.specs.declared.Symbol.{Symbol}
+use Rattle.symbols.specs.Faults.{is_broken, is_taken, is_stuck, is_undefined, is_lost, fault_of}
 use Rattle.symbols.specs.declared.Phase.{Phase}
-use Rattle.symbols.specs.declared.Phase.TheVariants.{Two, Three}
-use Rattle.symbols.specs.declared.Fault.TheVariants.{Clear, LineBroken, NotFree, ClockStuck, Undefined, DataLost}
-
--- a test's answer, by the phase that the code has found
-pub taken_is : (ph q : Phase) (s : Symbol) (l : Lines) (r x : Bool) → ph ≡ q → x ≡ is_first s → r ≡ (x && not (l.scl && l.sda))
-    → (is_first s && not (l.scl && l.sda)) ≡ is_taken q l → r ≡ is_taken ph l
-taken_is ph q s l r x e f h k = rw (e, ← k, ← f) h
-
-pub low_for : (ph : Phase) (s : Symbol) (n : ℕ) (l : Lines) → ph ≡ Two s n → l.scl ≡ false → leb 16 n ≡ is_stuck ph l
-unfolding most_held
-low_for ph s n l e h = rw (e, h)
-
-pub differs_is : (ph : Phase) (s : Symbol) (w : Bool) (l : Lines) (r x : Bool) → ph ≡ Three s w → l.scl ≡ true → x ≡ is_bit s
-    → r ≡ (x && not (beq w l.sda)) → r ≡ is_undefined ph l
-differs_is ph s w l r x e h f g = rw (e, h, ← f) g
+use Rattle.symbols.specs.declared.Fault.TheVariants.{LineBroken, NotFree, ClockStuck, Undefined, DataLost}
 
 module _ (ph : Phase) (was : Bool) (seen d : Lines) (a : Bool) (driven : d ≡ drives ph was) (tested : a ≡ is_broken d seen) where
-  pub line_broken : a ≡ true → LineBroken ≡ fault_of ph was seen
+  pub line_broken : a ≡ true → Some LineBroken ≡ fault_of ph was seen
   unfolding fault_of
   line_broken h = let e : is_broken (drives ph was) seen ≡ true = cc in simp e
 
@@ -34,7 +15,7 @@ module _ (ph : Phase) (was : Bool) (seen d : Lines) (a : Bool) (driven : d ≡ d
     not_broken : is_broken (drives ph was) seen ≡ false
     not_broken = cc
 
-    pub not_free : (b : Bool) → b ≡ is_taken ph seen → b ≡ true → NotFree ≡ fault_of ph was seen
+    pub not_free : (b : Bool) → b ≡ is_taken ph seen → b ≡ true → Some NotFree ≡ fault_of ph was seen
     unfolding fault_of
     not_free b e h = let g : is_taken ph seen ≡ true = cc in simp (not_broken, g)
 
@@ -42,7 +23,7 @@ module _ (ph : Phase) (was : Bool) (seen d : Lines) (a : Bool) (driven : d ≡ d
       is_free : is_taken ph seen ≡ false
       is_free = cc
 
-      pub clock_stuck : (x : Bool) → x ≡ is_stuck ph seen → x ≡ true → ClockStuck ≡ fault_of ph was seen
+      pub clock_stuck : (x : Bool) → x ≡ is_stuck ph seen → x ≡ true → Some ClockStuck ≡ fault_of ph was seen
       unfolding fault_of
       clock_stuck x e h = let g : is_stuck ph seen ≡ true = cc in simp (not_broken, is_free, g)
 
@@ -50,7 +31,7 @@ module _ (ph : Phase) (was : Bool) (seen d : Lines) (a : Bool) (driven : d ≡ d
         is_running : is_stuck ph seen ≡ false
         is_running = cc
 
-        pub undefined : (y : Bool) → y ≡ is_undefined ph seen → y ≡ true → Undefined ≡ fault_of ph was seen
+        pub undefined : (y : Bool) → y ≡ is_undefined ph seen → y ≡ true → Some Undefined ≡ fault_of ph was seen
         unfolding fault_of
         undefined y e h = let g : is_undefined ph seen ≡ true = cc in simp (not_broken, is_free, is_running, g)
 
@@ -58,10 +39,10 @@ module _ (ph : Phase) (was : Bool) (seen d : Lines) (a : Bool) (driven : d ≡ d
           is_defined : is_undefined ph seen ≡ false
           is_defined = cc
 
-          pub data_lost : (z : Bool) → z ≡ is_lost ph seen → z ≡ true → DataLost ≡ fault_of ph was seen
+          pub data_lost : (z : Bool) → z ≡ is_lost ph seen → z ≡ true → Some DataLost ≡ fault_of ph was seen
           unfolding fault_of
           data_lost z e h = let g : is_lost ph seen ≡ true = cc in simp (not_broken, is_free, is_running, is_defined, g)
 
-          pub clear : (z : Bool) → z ≡ is_lost ph seen → z ≡ false → Clear ≡ fault_of ph was seen
+          pub clear : (z : Bool) → z ≡ is_lost ph seen → z ≡ false → None ≡ fault_of ph was seen
           unfolding fault_of
           clear z e h = let g : is_lost ph seen ≡ false = cc in simp (not_broken, is_free, is_running, is_defined, g)

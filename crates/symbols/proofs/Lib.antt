@@ -1,4 +1,4 @@
--- Laws by kind. The crates above cite Moves.
-pub mod Table
+-- Laws by kind. The crates above cite Moves; Table is for readers.
 pub mod Ladder
 pub mod Moves
+pub mod Table

@@ -1,5 +1,5 @@
 -- The line faults, looked at in this order each tick, waits excepted (paper 01, "Line faults"). Assumes nothing.
-use Rattle.std.specs.Prelude.{ℕ, Bool, true, false, not, ◌&&◌, ◌||◌, cond, leb}
+use Rattle.std.specs.Prelude.{ℕ, Bool, true, false, not, ◌&&◌, ◌||◌, cond, leb, Option, Some, None}
 use Rattle.std.specs.Bool.{beq}
 use Rattle.lines.specs.Levels.{most_held}
 use Rattle.lines.specs.declared.Lines.{Lines}
@@ -10,7 +10,7 @@ use Rattle.symbols.specs.declared.Symbol.TheVariants.{Start, Stop, Sent, Receive
 use Rattle.symbols.specs.declared.Phase.{Phase}
 use Rattle.symbols.specs.declared.Phase.TheVariants.{Over, Waiting, Zero, One, Two, Three}
 use Rattle.symbols.specs.declared.Fault.{Fault}
-use Rattle.symbols.specs.declared.Fault.TheVariants.{Clear, DataLost, ClockStuck, Undefined, NotFree, LineBroken}
+use Rattle.symbols.specs.declared.Fault.TheVariants.{DataLost, ClockStuck, Undefined, NotFree, LineBroken}
 
 -- 5: a line driven 0 is seen 1
 abbrev pub is_broken : (drive seen : Lines) → Bool
@@ -79,28 +79,19 @@ is_lost (One s) l = false
 is_lost (Two s n) l = l.scl && lets_go s && not l.sda
 is_lost (Three s w) l = is_stop s && not l.sda
 
-unfoldable pub fault_of : Phase → Bool → Lines → Fault
+unfoldable pub fault_of : Phase → Bool → Lines → Option Fault
 fault_of ph p l =
-    cond (is_broken (drives ph p) l) LineBroken
-    (cond (is_taken ph l) NotFree
-    (cond (is_stuck ph l) ClockStuck
-    (cond (is_undefined ph l) Undefined
-    (cond (is_lost ph l) DataLost
-    Clear))))
+    cond (is_broken (drives ph p) l) (Some LineBroken)
+    (cond (is_taken ph l) (Some NotFree)
+    (cond (is_stuck ph l) (Some ClockStuck)
+    (cond (is_undefined ph l) (Some Undefined)
+    (cond (is_lost ph l) (Some DataLost)
+    None))))
 
 -- its outcome
 abbrev pub outcome_of : Fault → ℕ
-outcome_of Clear = 0
 outcome_of DataLost = 1
 outcome_of ClockStuck = 2
 outcome_of Undefined = 3
 outcome_of NotFree = 4
 outcome_of LineBroken = 5
-
-abbrev pub is_clear : Fault → Bool
-is_clear Clear = true
-is_clear DataLost = false
-is_clear ClockStuck = false
-is_clear Undefined = false
-is_clear NotFree = false
-is_clear LineBroken = false

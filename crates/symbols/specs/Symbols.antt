@@ -2,17 +2,12 @@
 use Rattle.std.specs.Prelude.{Bool, true, false}
 use Rattle.lines.specs.Levels.{hi, lo, ◌∥◌, released}
 use Rattle.lines.specs.declared.Lines.{Lines}
+use Rattle.symbols.specs.declared.Row.{Row}
 use Rattle.symbols.specs.declared.Begin.TheVariants.{First, Repeated}
 use Rattle.symbols.specs.declared.Symbol.{Symbol}
 use Rattle.symbols.specs.declared.Symbol.TheVariants.{Start, Stop, Sent, Received}
 use Rattle.symbols.specs.declared.Phase.{Phase}
 use Rattle.symbols.specs.declared.Phase.TheVariants.{Over, Waiting, Zero, One, Two, Three}
-
-pub record Row : Type 0 where
-  pub zero : Lines
-  pub one : Lines
-  pub two : Lines
-  pub three : Lines
 
 abbrev pub four : Lines → Lines → Lines → Lines → Row
 four a b c d = record { zero = a; one = b; two = c; three = d }

@@ -1,15 +1,14 @@
 -- The controller's tick. What it wants to do is a plan: which symbol it asks for next, where the bit seen takes it, what a fault leaves. The tick rules
 -- know symbols and phases, and no messages (paper 01, "Ticks and symbols"). Assumes nothing.
-use Rattle.std.specs.Prelude.{ℕ, zero, suc, Bool, cond}
+use Rattle.std.specs.Prelude.{ℕ, zero, suc, Bool, cond, Option, Some, None}
 use Rattle.lines.specs.Levels.{hi}
 use Rattle.lines.specs.declared.Lines.{Lines}
 use Rattle.symbols.specs.Symbols.{row}
-use Rattle.symbols.specs.Faults.{fault_of, is_clear}
+use Rattle.symbols.specs.Faults.{fault_of}
 use Rattle.symbols.specs.declared.Begin.TheVariants.{First}
 use Rattle.symbols.specs.declared.Symbol.{Symbol}
 use Rattle.symbols.specs.declared.Symbol.TheVariants.{Start}
 use Rattle.symbols.specs.declared.Fault.{Fault}
-use Rattle.symbols.specs.declared.Fault.TheVariants.{Clear}
 use Rattle.symbols.specs.declared.Phase.{Phase}
 use Rattle.symbols.specs.declared.Phase.TheVariants.{Over, Waiting, Zero, One, Two, Three}
 
@@ -29,7 +28,7 @@ abbrev pub enter : Ask → Phase
 enter (first zero) = Zero (Start First)
 enter (first (suc n)) = Waiting n
 enter (clocked s) = Zero s
-enter end = Over Clear
+enter end = Over None
 
 -- `was`: the SDA driven in the last phase 3
 pub record Control (S : Type 0) : Type 0 where
@@ -56,8 +55,9 @@ module _ (Q : Plan) where
       record { phase = enter (Q.ask (Q.next c.plan l.sda)); was = (row s c.was).three.sda; plan = Q.next c.plan l.sda }
 
   -- a fault ends the run with both lines released
-  abbrev pub settle : Fault → Lines → Control Q.State → Control Q.State
-  settle f l c = cond (is_clear f) (move c.phase l c) (record { phase = Over f; was = hi; plan = Q.failed c.plan f })
+  abbrev pub settle : Option Fault → Lines → Control Q.State → Control Q.State
+  settle None l c = move c.phase l c
+  settle (Some f) l c = record { phase = Over (Some f); was = hi; plan = Q.failed c.plan f }
 
   unfoldable pub control_tick : Lines → Control Q.State → Control Q.State
   control_tick l c = settle (fault_of c.phase c.was l) l c

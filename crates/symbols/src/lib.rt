@@ -4,14 +4,16 @@
 mod faults;
 mod phases;
 
+use lines::Lines;
+
 // A START is the first of its transaction, or a repeated one.
-#[derive(Clone, Copy)]
+#[derive(Clone, Copy, Debug, PartialEq, Eq)]
 pub enum Begin {
     First,
     Repeated,
 }
 
-#[derive(Clone, Copy)]
+#[derive(Clone, Copy, Debug, PartialEq, Eq)]
 pub enum Symbol {
     Start(Begin),
     Stop,
@@ -19,10 +21,18 @@ pub enum Symbol {
     Received,
 }
 
-// What a line fault is called, or that there is none.
+// The levels that a symbol has in its four phases.
 #[derive(Clone, Copy)]
+pub struct Row {
+    pub zero: Lines,
+    pub one: Lines,
+    pub two: Lines,
+    pub three: Lines,
+}
+
+// What a line fault is called.
+#[derive(Clone, Copy, Debug, PartialEq, Eq)]
 pub enum Fault {
-    Clear,
     DataLost,
     ClockStuck,
     Undefined,
@@ -31,10 +41,10 @@ pub enum Fault {
 }
 
 // A phase is one case with its symbol inside it, so that a received bit can't be met in the middle of a STOP.
-#[derive(Clone, Copy)]
+#[derive(Clone, Copy, Debug, PartialEq, Eq)]
 pub enum Phase {
     // at the end, by a fault or without one
-    Over(Fault),
+    Over(Option<Fault>),
     // the ticks of the wait that follow this one; four bytes, or it would share bytes with a symbol and slow every tick
     Waiting(u32),
     Zero(Symbol),

@@ -50,7 +50,8 @@ module _ (list holds : List ℕ) (asked : ℕ) where
       num t n = omega arith
 
   -- the lines that the code finds are the rules'
-  pub lines_are : (b : Bus) (xs : List Seated) (area : List ℕ) (t : ℕ) → b.up ≡ all_up xs → lines_on (places list) asked (bus_on holds b xs area t) ≡ bus_lines b
+  pub lines_are : (b : Bus) (xs : List Seated) (area : List ℕ) (t : ℕ) → b.up ≡ all_up xs
+      → lines_on (places list) asked (bus_on holds b xs area t) ≡ bus_lines b
   lines_are b xs area t u =
       ap (λ (x : Bool). joined (drives b.control.phase b.control.was) b.hold.left x) (up_is t xs ∙ sym u)
 
@@ -61,7 +62,12 @@ module _ (list holds : List ℕ) (asked : ℕ) where
   unfolding tick
   tick_is b r xs ys area after t u s h =
       ap₂ (λ (c : Control Spot) (g : Holding). record { control = c; holding = g; eye = r.eye; chips = map (body_of (suc t)) ys }) s.control s.hold
-      ∙ ap₂ (λ (e : Eye) (cs : List Body). record { control = (Wires.seeing (places list) asked (bus_lines b) (bus_on holds b xs area t)).control; holding = (Wires.seeing (places list) asked (bus_lines b) (bus_on holds b xs area t)).holding; eye = e; chips = cs }) s.eye h
+      ∙ ap₂ (λ (e : Eye) (cs : List Body). record {
+        control = (Wires.seeing (places list) asked (bus_lines b) (bus_on holds b xs area t)).control;
+        holding = (Wires.seeing (places list) asked (bus_lines b) (bus_on holds b xs area t)).holding;
+        eye = e;
+        chips = cs;
+      }) s.eye h
       ∙ ap (λ (l : Lines). Wires.seeing (places list) asked l (bus_on holds b xs area t)) (sym (lines_are b xs area t u))
 
   -- one turn, in the code's words
@@ -78,9 +84,12 @@ module _ (list holds : List ℕ) (asked : ℕ) where
       let s' : BusSees list holds (bus_lines b) b area r after = (rw e at s) in
       let h' : map (body_of (suc t)) ys ≡ map (body_tick asked (event_of b.eye (bus_lines b))) (map (body_of t) xs) = (rw e at h) in
       rw (p, q, e, add-one t)
-      (ap (λ (x : Wires.Bus Spot). finish (suc t) (run (places list) asked (l - suc t) x) (set trace t (byte_of (bus_lines b)))) (tick_is b r xs ys area after t u s' h')
-      ∙ ap (λ (y : Lines). finish (suc t) (run (places list) asked (l - suc t) (tick (places list) asked (bus_on holds b xs area t))) (set trace t (byte_of y))) (sym (lines_are b xs area t u))
-      ∙ sym (finish_more t (lines_on (places list) asked (bus_on holds b xs area t)) (run (places list) asked (l - suc t) (tick (places list) asked (bus_on holds b xs area t))) trace)
+      (ap (λ (x : Wires.Bus Spot). finish (suc t) (run (places list) asked (l - suc t) x) (set trace t (byte_of (bus_lines b))))
+      (tick_is b r xs ys area after t u s' h')
+      ∙ ap (λ (y : Lines). finish (suc t) (run (places list) asked (l - suc t) (tick (places list) asked (bus_on holds b xs area t))) (set trace t (byte_of y)))
+      (sym (lines_are b xs area t u))
+      ∙ sym (finish_more t (lines_on (places list) asked (bus_on holds b xs area t))
+      (run (places list) asked (l - suc t) (tick (places list) asked (bus_on holds b xs area t))) trace)
       ∙ ap (λ (x : Ran (places list) asked). finish t x trace) (sym (run_more (places list) asked (l - suc t) (bus_on holds b xs area t) z))
       ∙ ap (λ (n : ℕ). finish t (run (places list) asked n (bus_on holds b xs area t)) trace) (sym k) ∙ inv)
 
@@ -106,7 +115,8 @@ module _ (list holds : List ℕ) (asked : ℕ) where
   ends_over start lent b xs area trace t o inv ov over =
       went start (bus_on holds b xs area t) t lent trace
       (sym (finish_none t (bus_on holds b xs area t) trace)
-      ∙ ap (λ (x : Ran (places list) asked). finish t x trace) (sym (run_over (places list) asked (limit - t) (bus_on holds b xs area t) (sym ov ∙ over))) ∙ inv)
+      ∙ ap (λ (x : Ran (places list) asked). finish t x trace)
+      (sym (run_over (places list) asked (limit - t) (bus_on holds b xs area t) (sym ov ∙ over))) ∙ inv)
 
   pub ends_late : (start : Wires.Bus Spot) (lent : List ℕ) (b : Bus) (xs : List Seated) (area trace : List ℕ) (t : ℕ)
       → finish t (run (places list) asked (limit - t) (bus_on holds b xs area t)) trace ≡ finish 0 (run (places list) asked limit start) lent

@@ -2,18 +2,15 @@
 // where there is one.
 #![tactic(auto)]
 
-ghost use Rattle.std.specs.Prelude.{◌≡◌, ◌+◌, ◌-◌, ◌<◌, ◌≤◌, length};
-ghost use Rattle.lines.specs.Events.{event_of};
-ghost use Rattle.symbols.specs.Symbols.{is_over};
-ghost use Rattle.board.specs.Seats.{seated, offset, all_up};
+ghost use Rattle.std.specs.Prelude.{◌≡◌, ◌+◌, ◌-◌, ◌<◌, ◌≤◌, length, map};
+ghost use Rattle.board.specs.Seats.{seated, offset, heard, all_up};
 ghost use Rattle.wires.specs.Holding.{hold_tick};
 ghost use Rattle.wires.specs.Inside.{holding_of, bus_lines, BusSees, phase_rest, rest_of, rested_of, filled, bus_on, Went};
 
-use board::{Seat, is_bit};
+use board::{Chips, Seat, is_bit};
 use controller::Controller;
 use lent::put_at;
-use lines::{Event, Eye, Lines, one_less};
-use orders::start;
+use lines::{Event, Eye, Lines};
 use symbols::{Begin, Phase, Symbol};
 
 // No run gets there: the list's own bound is far below.
@@ -31,37 +28,18 @@ impl Holder {
     fn tick(self, past: bool, seen: bool, holds: &[u8]) -> Holder
         ensures { holding_of result holds.now ≡ hold_tick past seen (holding_of self holds.now) }
     {
-        let next = self.next;
-        if past {
-            if seen {
-                Holder {
-                    left: one_less(self.left),
-                    next: next,
-                }
-            } else {
-                if next < holds.len() {
-                    Holder {
-                        left: 1 + holds[next] as u16,
-                        next: next + 1,
-                    }
-                } else {
-                    Holder {
-                        left: 1,
-                        next: next,
-                    }
-                }
+        if past && !seen {
+            match holds.get(self.next) {
+                Some(&hold) => Holder {
+                    left: 1 + u16::from(hold),
+                    next: self.next + 1,
+                },
+                None => Holder { left: 1, ..self },
             }
         } else {
-            if seen {
-                Holder {
-                    left: one_less(self.left),
-                    next: next,
-                }
-            } else {
-                Holder {
-                    left: one_less(self.left),
-                    next: next,
-                }
+            Holder {
+                left: self.left.saturating_sub(1),
+                ..self
             }
         }
     }
@@ -81,12 +59,8 @@ fn wait_left(phase: Phase) -> usize
     ensures { result ≡ phase_rest phase }
 {
     match phase {
-        Phase::Over(_) => 0,
         Phase::Waiting(n) => n as usize + 1,
-        Phase::Zero(_) => 0,
-        Phase::One(_) => 0,
-        Phase::Two(_, _) => 0,
-        Phase::Three(_, _) => 0,
+        _ => 0,
     }
 }
 
@@ -95,27 +69,11 @@ impl Bus {
     fn lines(self) -> Lines
         ensures { result ≡ bus_lines self }
     {
-        let control = self.control;
-        let hold = self.hold;
-        let drive = control.drive();
+        let drive = self.control.drive();
         Lines {
-            scl: drive.scl & (hold.left == 0),
-            sda: drive.sda & self.up,
+            scl: drive.scl && self.hold.left == 0,
+            sda: drive.sda && self.up,
         }
-    }
-
-    fn event(self, seen: Lines) -> Event
-        ensures { result ≡ event_of self.eye seen }
-    {
-        let eye = self.eye;
-        eye.event(seen)
-    }
-
-    fn is_over(self) -> bool
-        ensures { result ≡ is_over self.control.phase }
-    {
-        let control = self.control;
-        control.is_over()
     }
 
     // All but the chips see the lines.
@@ -123,17 +81,10 @@ impl Bus {
         ensures sees { BusSees list.now holds.now seen self area.old result area.new }
         ensures up { result.up ≡ self.up }
     {
-        let control = self.control;
-        let hold = self.hold;
-        let eye = self.eye;
-        let past = eye.past;
-        let held = hold.tick(past.scl, seen.scl, holds);
-        let after = eye.after(seen);
-        let next = control.tick(seen, list, area);
         Bus {
-            control: next,
-            hold: held,
-            eye: after,
+            control: self.control.tick(seen, list, area),
+            hold: self.hold.tick(self.eye.past.scl, seen.scl, holds),
+            eye: self.eye.after(seen),
             up: self.up,
         }
     }
@@ -142,21 +93,9 @@ impl Bus {
     fn calm(self) -> usize
         ensures { result ≡ rest_of self }
     {
-        let control = self.control;
-        let phase = control.phase;
-        let hold = self.hold;
-        let eye = self.eye;
-        let past = eye.past;
-        if self.up {
-            if hold.left == 0 {
-                if past.scl {
-                    if past.sda { wait_left(phase) } else { 0 }
-                } else {
-                    0
-                }
-            } else {
-                0
-            }
+        let past = self.eye.past;
+        if self.up && self.hold.left == 0 && past.scl && past.sda {
+            wait_left(self.control.phase)
         } else {
             0
         }
@@ -166,19 +105,12 @@ impl Bus {
     fn rested(self) -> Bus
         ensures { result ≡ rested_of self }
     {
-        let control = self.control;
-        let cursor = control.cursor;
-        let hold = self.hold;
-        let eye = self.eye;
         Bus {
             control: Controller {
                 phase: Phase::Zero(Symbol::Start(Begin::First)),
-                was: control.was,
-                cursor: cursor,
+                ..self.control
             },
-            hold: hold,
-            eye: eye,
-            up: self.up,
+            ..self
         }
     }
 }
@@ -188,13 +120,31 @@ fn fill(trace: &mut [u8], from: usize, count: usize)
     requires { (from < 1099511627777) × (count < 1099511627777) }
     ensures { trace.new ≡ filled count from trace.old }
 {
-    let mut n = count;
-    let mut i = from;
-    while 0 < n {
+    for i in from..from + count {
         put_at(trace, i, 3);
-        i += 1;
-        n -= 1;
     }
+}
+
+// The chips hear an event, each with its part of the memory; what they leave of SDA. A deaf one hears no bit, and is not touched.
+fn hear_all(seats: &mut [Seat], event: Event, tick: usize, asked: u16, memory: &mut [u8]) -> bool
+    requires { (tick < 1099511627776) × (length seats.old ≤ 8) × (length memory.old ≡ offset (length seats.old) seats.old) }
+    ensures heard { seated (length seats.old) seats.new memory.new
+        ≡ map (heard asked tick event) (seated (length seats.old) seats.old memory.old) }
+    ensures up { result ≡ all_up (seated (length seats.old) seats.new memory.new) }
+    ensures fits { length memory.new ≡ offset (length seats.old) seats.new }
+{
+    let bit = is_bit(event);
+    let mut up = true;
+    let mut begin = 0;
+    for seat in seats.iter_mut() {
+        let end = begin + seat.size();
+        if !(bit && seat.is_deaf()) {
+            *seat = seat.hear(event, tick, asked, &mut memory[begin..end]);
+            up &= seat.sda();
+        }
+        begin = end;
+    }
+    up
 }
 
 // The run's end, its ticks, and the chips.
@@ -202,14 +152,13 @@ fn fill(trace: &mut [u8], from: usize, count: usize)
 pub struct Ran {
     pub bus: Bus,
     pub ticks: usize,
-    pub seats: [Seat; 8],
+    pub chips: Chips,
 }
 
-// Ticks until the controller is over. The chips hear an event once it is found, a deaf one no bit; a wait is passed at once.
+// Ticks until the controller is over. The chips hear an event once it is found; a wait is passed at once.
 pub fn goes(
     start: Bus,
-    at: [Seat; 8],
-    n: usize,
+    at: Chips,
     asked: u16,
     list: &[u8],
     holds: &[u8],
@@ -217,66 +166,37 @@ pub fn goes(
     area: &mut [u8],
     trace: &mut [u8],
 ) -> Ran
-    requires { (n ≤ 8) × (length memory.old ≡ offset n at) × (start.up ≡ all_up (seated n at memory.old)) }
+    requires { (length memory.old ≡ offset at.count at.seats) × (start.up ≡ all_up (seated at.count at.seats memory.old)) }
     ensures went { Went list.now asked
-        (bus_on holds.now start (seated n at memory.old) area.old 0) trace.old
-        (bus_on holds.now result.bus (seated n result.seats memory.new) area.new result.ticks) result.ticks trace.new }
-    ensures fits { (length memory.new ≡ offset n result.seats) × (length result.seats ≡ 8) }
+        (bus_on holds.now start (seated at.count at.seats memory.old) area.old 0) trace.old
+        (bus_on holds.now result.bus (seated at.count result.chips.seats memory.new) area.new result.ticks) result.ticks trace.new }
+    ensures count { result.chips.count ≡ at.count }
+    ensures fits { length memory.new ≡ offset at.count result.chips.seats }
 {
     let mut bus = start;
-    let mut seats = at;
+    let Chips { mut seats, count } = at;
     let mut t = 0;
-    while t < LIMIT {
-        if bus.is_over() {
-            return Ran {
-                bus: bus,
-                ticks: t,
-                seats: seats,
-            };
-        }
-        let k = bus.calm();
-        if 0 < k {
-            if k <= LIMIT - t {
-                fill(trace, t, k);
-                bus = bus.rested();
-                t += k;
-                continue;
-            }
-        }
-        let seen = bus.lines();
-        let event = bus.event(seen);
-        put_at(trace, t, seen.byte());
-        bus = bus.tick(seen, list, holds, area);
-        if event.is_quiet() {
-            t += 1;
+    // Stays: a turn goes over one tick or a whole wait, and a `for` goes on by one.
+    while t < LIMIT && !bus.control.is_over() {
+        let rest = bus.calm();
+        if 0 < rest && rest <= LIMIT - t {
+            fill(trace, t, rest);
+            bus = bus.rested();
+            t += rest;
             continue;
         }
-        let bit = is_bit(event);
-        let mut up = true;
-        let mut a = 0;
-        let mut i = 0;
-        while i < n {
-            let seat = seats[i];
-            let e = a + seat.size();
-            if bit {
-                if seat.is_deaf() {
-                    a = e;
-                    i += 1;
-                    continue;
-                }
-            }
-            let next = seat.hear(event, t, asked, &mut memory[a..e]);
-            up = up & next.sda();
-            seats[i] = next;
-            a = e;
-            i += 1;
+        let seen = bus.lines();
+        let event = bus.eye.event(seen);
+        put_at(trace, t, u8::from(seen));
+        bus = bus.tick(seen, list, holds, area);
+        if !event.is_quiet() {
+            bus.up = hear_all(&mut seats[..count], event, t, asked, memory);
         }
-        bus.up = up;
         t += 1;
     }
     Ran {
-        bus: bus,
+        bus,
         ticks: t,
-        seats: seats,
+        chips: Chips { seats, count },
     }
 }

@@ -52,9 +52,10 @@ static TRIED: [Wrong; 5] = [
     },
 ];
 
-/// The types of a source file, with their derives: what the definitions speak of. Functions and methods go, and the names that only they use.
+/// The types of a source file, with their derives and ghost fields: what the definitions speak of. Functions and methods go, and the names that only they use.
 fn types(source: &str) -> String {
     let (mut kept, mut derives) = (String::new(), String::new());
+    let has_ghost_fields = source.lines().any(|line| line.trim_start_matches(' ').trim_start_matches("pub ").starts_with("ghost ") && line.starts_with(' '));
     let mut inside = false;
     for line in source.lines() {
         let item = line.strip_prefix("pub ").unwrap_or(line);
@@ -70,6 +71,8 @@ fn types(source: &str) -> String {
         } else {
             derives.clear();
             if item.starts_with("mod ") || line.starts_with("#!") {
+                kept += &format!("{line}\n");
+            } else if line.starts_with("ghost use ") && has_ghost_fields {
                 kept += &format!("{line}\n");
             } else if item.starts_with("use ") {
                 kept += &types_used(line);

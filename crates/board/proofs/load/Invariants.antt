@@ -1,10 +1,7 @@
 -- What the loop of `board::load` keeps: the places below a strap are filled, strap after strap. Assumes nothing.
-use Rattle.std.proofs.Common.{◌≡◌, ◌-◌, ◌≤◌, length}
+use Rattle.std.proofs.Common.{◌≡◌, length}
 use Rattle.board.proofs.Loading.{Filled}
 use Rattle.board.proofs.load.Given as goal
 
 abbrev pub invariant-loop-strap : goal.invariant-loop-strap
-invariant-loop-strap l = (l.strap ≤ 8) × (length l.seats ≡ 8) × Filled l.marks l.states l.seats l.strap
-
-abbrev pub decreases-loop-strap : goal.decreases-loop-strap
-decreases-loop-strap l = 8 - l.strap
+invariant-loop-strap l = (length l.seats ≡ 8) × Filled l.marks l.states l.seats l.strap

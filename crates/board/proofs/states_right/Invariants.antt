@@ -1,10 +1,6 @@
 -- What the loop of `board::states_right` keeps: the states so far are in range. Assumes nothing.
-use Rattle.std.proofs.Common.{◌-◌, ◌≤◌}
 use Rattle.board.proofs.Range.{Looked}
 use Rattle.board.proofs.states_right.Given as goal
 
 abbrev pub invariant-loop-strap : goal.invariant-loop-strap
-invariant-loop-strap l = (l.strap ≤ 8) × Looked l.marks l.states l.strap
-
-abbrev pub decreases-loop-strap : goal.decreases-loop-strap
-decreases-loop-strap l = 8 - l.strap
+invariant-loop-strap l = Looked l.marks l.states l.strap

@@ -1,5 +1,5 @@
 -- `bus::accepted` meets its contract: what the loop leaves is what the rules say. Assumes nothing.
-use Rattle.std.proofs.Common.{refl, rules}
+use Rattle.std.proofs.Common.{rules}
 use Rattle.bus.proofs.Entry.{loop_asks, save_asks, wires_so}
 use Rattle.bus.proofs.accepted.Goals as goal
 
@@ -7,22 +7,19 @@ pub goes-ran-requires : goal.goes-ran-requires
 goes-ran-requires c =
     let g = c.well_formed in
     let f = c.ranges in
-    loop_asks c.args.list.now c.args.size c.args.marks c.args.memory.now c.args.states.now c.args.holds.now c.args.asked c.args.results.now c.args.trace.now
-    c.requires (search rules) (search rules) c.load-seats.result c.load-seats.ensures (search rules) c.chip_count-n.result c.chip_count-n.ensures.value
+    loop_asks _ _ _ _ _ _ _ _ c.args.trace.now c.requires (search rules) (search rules) _ c.load-chips.ensures.seats (search rules) _ c.load-chips.ensures.count
 
 pub save-requires : goal.save-requires
 save-requires c =
     let g = c.well_formed in
     let f = c.ranges in
-    save_asks c.args.list.now c.args.size c.args.marks c.args.memory.now c.args.states.now c.args.holds.now c.args.asked c.args.results.now c.args.trace.now
-    c.requires (search rules) (search rules) c.load-seats.result c.load-seats.ensures (search rules) c.chip_count-n.result c.chip_count-n.ensures.value
-    c.args.states.now refl
+    save_asks _ _ _ _ _ _ _ _ c.args.trace.now c.requires (search rules) (search rules) _ c.load-chips.ensures.seats (search rules) _ c.load-chips.ensures.count
+    _ c.goes-ran.ensures.count
 
 pub returns : goal.returns
 returns c =
     let g = c.well_formed in
     let f = c.ranges in
-    wires_so c.args.list.now c.args.size c.args.marks c.args.memory.now c.args.states.now c.args.holds.now c.args.asked c.args.results.now c.args.trace.now
-    c.requires (search rules) (search rules) c.load-seats.result c.load-seats.ensures (search rules) c.chip_count-n.result c.chip_count-n.ensures.value _ _ _
-    c.goes-ran.result.bus c.goes-ran.result.seats _ _ _ _ _ c.start.ensures c.first-control.ensures c.opened-eye.ensures c.goes-ran.ensures.went
-    c.goes-ran.ensures.fits.0 c.goes-ran.ensures.fits.1 c.save.ensures
+    wires_so _ _ _ _ _ _ _ _ _ c.requires (search rules) (search rules) _ c.load-chips.ensures.seats (search rules) _ c.load-chips.ensures.count _ _ _
+    c.goes-ran.result.bus c.goes-ran.result.chips.seats _ _ _ _ _ c.start.ensures c.first.ensures c.opened.ensures c.goes-ran.ensures.went
+    c.goes-ran.ensures.fits (search rules) (rw (← c.goes-ran.ensures.count) c.save.ensures)

@@ -1,20 +1,18 @@
--- `bus::run` meets its contract: the numbers in their order, and then the run. Assumes nothing.
-use Rattle.bus.proofs.Entry.{number_1, number_2, number_3_to_6, number_7, fine_so}
+-- `bus::run` meets its contract: the refusals in their order, and then the run. Assumes nothing.
+use Rattle.std.proofs.Common.{rules, ◌≡◌, Err}
+use Rattle.std.proofs.lemmas.Result.{err_from_is_err_and}
+use Rattle.bus.proofs.Entry.{list_refused, board_refused, area_refused}
 use Rattle.bus.proofs.run.Goals as goal
 
-pub returns-then-number-ne0 : goal.returns-then-number-ne0
-returns-then-number-ne0 c = search number_3_to_6
+pub returns-in_err-size : goal.returns-in_err-size
+returns-in_err-size c =
+    let p = err_from_is_err_and c.from_residual.result c.from_residual.ensures.1 in
+    rw (p.1, p.2) (list_refused _ _ _ _ _ _ _ _ c.in_err-size.field-0.0 c.in_err-size.ensures)
+
+pub returns-in_err-check_board : goal.returns-in_err-check_board
+returns-in_err-check_board c =
+    let h : c.from_residual-in_err-check_board.result ≡ Err c.in_err-check_board.field-0.0 = search rules in
+    rw h (board_refused _ _ _ _ _ _ _ _ _ c.in_ok-size.ensures c.in_err-check_board.field-0.0 c.in_err-check_board.ensures)
 
 pub returns-then-results-size : goal.returns-then-results-size
-returns-then-results-size c = search number_7
-
-pub accepted-requires : goal.accepted-requires
-accepted-requires c =
-    fine_so c.args.list.now c.args.marks c.args.memory.now c.args.states.now c.args.holds.now c.args.asked c.args.results.now c.args.trace.now _
-    c.check-checked.ensures _ c.in-Accepted.is _ c.board_number-number.ensures c.if-number-ne0.false c.if-results-size.false
-
-pub returns-in-TooLong : goal.returns-in-TooLong
-returns-in-TooLong c = search number_1
-
-pub returns-in-Broken : goal.returns-in-Broken
-returns-in-Broken c = search number_2
+returns-then-results-size c = area_refused _ _ _ _ _ _ _ _ _ c.in_ok-size.ensures c.in_ok-check_board.ensures c.if-results-size.true

@@ -1,15 +1,16 @@
--- `lone_chip::chip_alone` meets its contract. Assumes nothing.
-use Rattle.std.proofs.Common.{rules}
-use Rattle.lone_chip.proofs.Entry.{strap_in, turned_down_lem, ran}
+-- A refusal changes nothing; an accepted call runs. Assumes nothing.
+use Rattle.std.proofs.Common.{rules, ◌≡◌, Err}
+use Rattle.lone_chip.proofs.Entry.{strap_in, turned_down, ran}
 use Rattle.lone_chip.proofs.chip_alone.Goals as goal
 
-pub returns-then-number-ne0 : goal.returns-then-number-ne0
-returns-then-number-ne0 c = search turned_down_lem
+pub returns-in_err-check_chip : goal.returns-in_err-check_chip
+returns-in_err-check_chip c =
+    let h : c.from_residual.result ≡ Err c.in_err-check_chip.field-0.0 = search rules in turned_down _ _ _ _ _ _ _ _ c.in_err-check_chip.ensures h
 
 pub overflow_add-strap : goal.overflow_add-strap
-overflow_add-strap c = let h = strap_in _ _ _ _ _ _ _ c.chip_number-number.ensures c.if-number-ne0.false in search rules
+overflow_add-strap c = let h = strap_in _ _ _ _ _ _ c.in_ok-check_chip.ensures in search rules
 
 pub returns : goal.returns
 returns c =
-    ran _ _ _ _ _ _ _ _ _ _ _ _ _ _ c.chip_number-number.ensures c.if-number-ne0.false c.word_at-pointer.ensures c.word_at-busy.ensures c.at_rest-first.ensures
-    c.runs-last.ensures.state c.runs-last.ensures.drives c.put_state.ensures
+    ran _ _ _ _ _ _ _ _ _ _ _ _ _ c.in_ok-check_chip.ensures c.word_at.ensures c.word_at-2.ensures c.at_rest-first.ensures c.runs-last.ensures.state
+    c.runs-last.ensures.drives c.put_state.ensures

@@ -1,46 +1,42 @@
 -- The entry `reading::read` meets its contract: one equation for all input. Assumes nothing.
-use Rattle.std.proofs.Common.{◌≡◌, length, rules}
-use Rattle.plain.proofs.Counting.{unmapped}
-use Rattle.reading.proofs.Entry.{too_long, not_of_the_form, board_wrong, area_too_small, begun_sound, short, row_long, ran_so}
+use Rattle.std.proofs.Common.{◌≡◌, rules, Err}
+use Rattle.orders.specs.Results.{refusal_of}
+use Rattle.reading.proofs.Entry.{list_wrong, board_wrong, area_too_small, begun_sound, short, row_long, ran_so}
 use Rattle.reading.proofs.read.Goals as goal
 
-pub returns-then-number-ne0 : goal.returns-then-number-ne0
-returns-then-number-ne0 c = search board_wrong
+pub returns-in_err-size : goal.returns-in_err-size
+returns-in_err-size c =
+    let w = c.in_err-size.was in
+    let e : c.from_residual.result ≡ Err (refusal_of c.in_err-size.field-0.0) = search rules in
+    rw e (list_wrong _ _ _ _ _ _ _ _ c.check.ensures _ (search rules))
+
+pub returns-in_err-check_board : goal.returns-in_err-check_board
+returns-in_err-check_board c =
+    let e : c.from_residual-in_err-check_board.result ≡ Err c.in_err-check_board.field-0.0 = search rules in
+    rw e (board_wrong _ _ _ _ _ _ _ _ c.check.ensures _ c.in_ok-size.was _ c.check_board.ensures _ (search rules))
 
 pub returns-then-results-size : goal.returns-then-results-size
-returns-then-results-size c = search area_too_small
+returns-then-results-size c = area_too_small _ _ _ _ _ _ _ _ c.check.ensures _ c.in_ok-size.was _ c.check_board.ensures _ c.in_ok-check_board.was c.if-results-size.true
 
 pub transactions-end-requires : goal.transactions-end-requires
 transactions-end-requires c = (
   begun_sound c.args.list.now c.args.marks c.args.memory.now c.args.states.now c.args.holds.now c.args.asked c.args.results.now _ c.check.ensures _
-      c.in-Accepted.is _ c.board_number-number.ensures c.if-number-ne0.false c.if-results-size.false _ _ _ c.start.ensures c.load-seats.ensures
-      c.chip_count-count.ensures.value c.chip_count-count.ensures.few (let o = c.load-seats.type_inv in search rules),
+      c.in_ok-size.was _ c.check_board.ensures _ c.in_ok-check_board.was c.if-results-size.false _ _ c.start.ensures c.load.ensures.seats c.load.ensures.count
+      (search rules),
   search rules,
   short c.args.list.now c.args.marks c.args.memory.now c.args.states.now c.args.holds.now c.args.asked c.args.results.now _ c.check.ensures _
-      c.in-Accepted.is _ c.board_number-number.ensures c.if-number-ne0.false c.if-results-size.false _ _ _ c.start.ensures c.load-seats.ensures
-      c.chip_count-count.ensures.value c.chip_count-count.ensures.few (let o = c.load-seats.type_inv in search rules),
+      c.in_ok-size.was _ c.check_board.ensures _ c.in_ok-check_board.was c.if-results-size.false c.load.result _ c.start.ensures c.load.ensures.seats c.load.ensures.count
+      (search rules),
 )
 
 pub save-requires : goal.save-requires
 save-requires c =
-    let full : length c.transactions-end.result.seats ≡ 8 = let o = c.transactions-end.type_inv in search (rules, unmapped) in (
-      c.transactions-end.ensures.sound.few,
-      row_long c.args.list.now c.args.marks c.args.memory.now c.args.states.now c.args.holds.now c.args.asked c.args.results.now _ c.check.ensures _
-          c.in-Accepted.is _ c.board_number-number.ensures c.if-number-ne0.false c.if-results-size.false _ _ _ c.start.ensures c.load-seats.ensures
-          c.chip_count-count.ensures.value c.chip_count-count.ensures.few (let o = c.load-seats.type_inv in search rules) _ _ _ c.transactions-end.ensures
-          full,
-    )
+    row_long c.args.list.now c.args.marks c.args.memory.now c.args.states.now c.args.holds.now c.args.asked c.args.results.now _ c.check.ensures _
+    c.in_ok-size.was _ c.check_board.ensures _ c.in_ok-check_board.was c.if-results-size.false _ _ c.start.ensures c.load.ensures.seats c.load.ensures.count
+    (search rules) _ _ _ c.transactions-end.ensures (search rules)
 
-pub returns-in-TooLong : goal.returns-in-TooLong
-returns-in-TooLong c = search too_long
-
-pub returns-in-Broken : goal.returns-in-Broken
-returns-in-Broken c = search not_of_the_form
-
-pub returns-else-results-size : goal.returns-else-results-size
-returns-else-results-size c =
-    let full : length c.transactions-end.result.seats ≡ 8 = let o = c.transactions-end.type_inv in search (rules, unmapped) in
+pub returns : goal.returns
+returns c =
     ran_so c.args.list.now c.args.marks c.args.memory.now c.args.states.now c.args.holds.now c.args.asked c.args.results.now _ c.check.ensures _
-    c.in-Accepted.is _ c.board_number-number.ensures c.if-number-ne0.false c.if-results-size.false _ _ _ c.start.ensures c.load-seats.ensures
-    c.chip_count-count.ensures.value c.chip_count-count.ensures.few (let o = c.load-seats.type_inv in search rules) _ _ _ c.transactions-end.ensures full _
-    c.save.ensures
+    c.in_ok-size.was _ c.check_board.ensures _ c.in_ok-check_board.was c.if-results-size.false _ _ c.start.ensures c.load.ensures.seats c.load.ensures.count
+    (search rules) _ _ _ c.transactions-end.ensures (search rules) _ c.save.ensures
