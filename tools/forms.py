@@ -14,7 +14,7 @@ FORMS = {
     "1a own enums of the shape of Option or Result, by the variant that says so": [r"^\s*(Nothing|Clear|Refused|Accepted\(|Whole \{)"],
     "1b numbers for refusals": [
         r"\bnumber: u8\b",
-        r"\bfn (number\(self|chip_number|board_number|end_number)",
+        r"\bfn (number\((self|checked)|chip_number|board_number|end_number)",
         r"\breturn [0-9]+;",
         r"\brefused\([0-9]\)",
         r"^\s*number: [0-9],\n\s*(ticks|end):",

@@ -25,7 +25,8 @@ pub struct Seat {
 // The chips of a run, in place order: the first `count` seats.
 #[derive(Clone, Copy)]
 pub struct Chips {
-    // Stays: there is no heap, and a board has eight straps; the count stands beside the array here and nowhere else.
+    // Stays: there is no heap, and a board has eight straps; the count stands beside the array here and nowhere else. The kit's ArrayVec would put one more
+    // library under the proved core for what this type says in a line.
     pub seats: [Seat; 8],
     pub count: usize,
     pub ghost few: { count ≤ 8 },
@@ -105,6 +106,7 @@ pub fn is_bit(event: Event) -> bool
 }
 
 // The pointer and the busy time of the chip at a strap.
+// Stays: marks and states are a parameter each, here and below, as every entry is lent them.
 fn state_at(marks: u8, states: &[u8], strap: u8) -> (u16, u16)
     requires { strap < 8 }
     ensures { result ≡ (word_at states.now (4 * place_of marks strap), word_at states.now (4 * place_of marks strap + 2)) }

@@ -1,19 +1,19 @@
 -- The entry: the code's run over places is the rules' run over transactions, and what it leaves in the lent areas is what `wire_run` says; the ladder of
 -- refusals. Assumes nothing.
-use Prim.Native.Nat.{ℕ, zero, suc, ◌*◌, ◌≤◌, ◌<◌}
+use Prim.Native.Nat.{ℕ, ◌*◌, ◌≤◌, ◌<◌}
 use mathlib.Core.Path.{◌≡◌, refl, ap, sym, ◌∙◌, subst}
 use mathlib.Core.Bool.{true}
 use mathlib.Core.List.{List, map}
+use Rattle.lent.proofs.Refusals.{refused_some, refused_first}
 use Rattle.std.proofs.Common.{Ok, Err}
-use borrow.Author.Tests.{lt-ltb, le-ltb, ne_eqb}
+use borrow.Author.Tests.{lt-ltb, le-ltb}
 use lib.Count.{ones}
 use lib.Dec.{ltb}
 use lib.ListN.{length, get_or, take}
 use Rattle.lent.specs.Areas.{over}
-use Rattle.lent.specs.Refusals.{no, ◌then◌, number_of, answer_of}
+use Rattle.lent.specs.Refusals.{no, number_of, answer_of}
 use Rattle.lent.specs.declared.Refusal.{Refusal}
-use Rattle.lent.specs.declared.Refusal.TheVariants.{ListTooLong, ListBroken, LentLengths, StateOutOfRange, HoldTooLong, BusyTooLong, AreaTooSmall}
-use Rattle.lent.specs.declared.Refusal.TheVariants.{SampleOutOfRange, DrivesTooShort, NoSuchStrap}
+use Rattle.lent.specs.declared.Refusal.TheVariants.{ListTooLong, ListBroken, AreaTooSmall}
 use Rattle.lines.specs.Events.{opened}
 use Rattle.lines.specs.declared.Lines.{Lines}
 use Rattle.lines.specs.declared.Eye.{Eye}
@@ -170,24 +170,11 @@ module _ (list : List ℕ) (size marks : ℕ) (memory states held : List ℕ) (a
       wires_so started control eye b after memory' states' results' trace' t p q r w fits eight' saved =
           went_so b after memory' states' results' trace' t (rw (p, q, r, count) at w) (rw count at fits) eight' (rw count at saved)
 
--- the ladder
-over_0 : (r : Refusal) → number_of r ≡ 0 → ⊥
-over_0 ListTooLong e = cc
-over_0 ListBroken e = cc
-over_0 LentLengths e = cc
-over_0 StateOutOfRange e = cc
-over_0 HoldTooLong e = cc
-over_0 BusyTooLong e = cc
-over_0 AreaTooSmall e = cc
-over_0 SampleOutOfRange e = cc
-over_0 DrivesTooShort e = cc
-over_0 NoSuchStrap e = cc
-
 module _ (list : List ℕ) (marks : ℕ) (memory states held : List ℕ) (asked : ℕ) (results trace : List ℕ) where
   turned_down_lem : (r : Refusal) → bus_number list marks memory states held asked results ≡ number_of r
       → traced (answer_of (Err r)) memory states results trace ≡ wire_run list marks memory states held asked results trace
   unfolding wire_run
-  turned_down_lem r e = rw (e, ne_eqb (number_of r) 0 (over_0 r))
+  turned_down_lem r e = rw (e, refused_some r)
 
   pub list_refused : (e : ListError) → Err e ≡ check_of list
       → traced (answer_of (Err (refusal_of e))) memory states results trace ≡ wire_run list marks memory states held asked results trace
@@ -200,11 +187,7 @@ module _ (list : List ℕ) (marks : ℕ) (memory states held : List ℕ) (asked 
         → traced (answer_of (Err r)) memory states results trace ≡ wire_run list marks memory states held asked results trace
     unfolding bus_number
     board_refused r said =
-        turned_down_lem r (rw (← right, ← said) (first_said (number_of r) (no 7 (ltb (length results) (area_of (transactions_of list)))) (over_0 r)))
-      where
-        first_said : (n m : ℕ) → (n ≡ 0 → ⊥) → n then m ≡ n
-        first_said zero m z = absurd (z refl)
-        first_said (suc n) m z = refl
+        turned_down_lem r (rw (← right, ← said) (refused_first r (no 7 (ltb (length results) (area_of (transactions_of list))))))
 
     pub area_refused : 0 ≡ board_number marks memory states held asked → length results < size
         → traced (answer_of (Err AreaTooSmall)) memory states results trace ≡ wire_run list marks memory states held asked results trace

@@ -61,9 +61,12 @@ module _ (list : List ℕ) where
         let s = ended_early (party (places list)) (control_of c a) y (λ l. stays (places list) l (control_of c a) y) t samples ds in
         rw ee (ap came (sym s) ∙ so_far)
 
-    pub ends_record : (e : EndOfRun) → t ≤ length samples → length samples ≤ t → end_told e ≡ end_of c.phase
-        → ◌≡◌ {A = Alone} (record { told = record { number = 0; end = end_told e; ticks = length samples }; drives = ds; results = a }) r
+    pub ends_record : (e : EndOfRun) → length samples ≤ t → end_told e ≡ end_of c.phase
+        → ◌≡◌ {A = Alone} (record { told = record { number = 0; end = end_told e; ticks = t }; drives = ds; results = a }) r
     unfolding onward
-    ends_record e h k ee =
-        let l : t ≡ length samples = omega arith in
-        rw (← l, ee) (ap came (sym (at_end (party (places list)) t samples (control_of c a) ds k)) ∙ so_far)
+    ends_record e h ee = rw ee (ap came (sym (at_end (party (places list)) t samples (control_of c a) ds h)) ∙ so_far)
+
+    -- whose ticks are its length then
+    pub ends_in_full : (e : EndOfRun) → t ≤ length samples → length samples ≤ t → end_told e ≡ end_of c.phase
+        → ◌≡◌ {A = Alone} (record { told = record { number = 0; end = end_told e; ticks = length samples }; drives = ds; results = a }) r
+    ends_in_full e h k ee = let l : t ≡ length samples = omega arith in rw (← l) (ends_record e k ee)

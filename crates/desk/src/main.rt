@@ -37,6 +37,7 @@ fn bench<'a>(list: &[u8], area: &'a mut [u8]) -> Result<Answer<'a>, Refusal> {
         return Err(Refusal::ListTooLong);
     }
     let size = check(list)?;
+    // a list within the bound asks for 11,264 bytes at most
     let results = area.get_mut(..size).ok_or(Refusal::AreaTooSmall)?;
     let mut memory = [255; 4096];
     let mut states = [0; 4];

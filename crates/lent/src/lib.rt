@@ -1,4 +1,4 @@
-// What callers lend: bytes read and stored by place, never outside of what is there, and the answer that goes back with it.
+// What callers lend: bytes read and stored by place, never outside of what is there, and why an entry says no.
 #![tactic(auto)]
 
 ghost use Rattle.std.specs.Prelude.{◌≡◌, get_or, set};

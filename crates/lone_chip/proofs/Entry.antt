@@ -3,17 +3,15 @@ use Prim.Native.Nat.{ℕ, suc, ◌+◌, ◌<◌, ◌≤◌}
 use mathlib.Core.Path.{◌≡◌, refl, ap, sym, ◌∙◌}
 use mathlib.Core.Bool.{Bool, true, not, ◌&&◌, and-eq-true_iff}
 use mathlib.Core.List.{List, [], ◌∷◌}
-use native.Mathlib.Omega.{arith}
-use borrow.Author.Tests.{ne_eqb, ltb-false, eqb-true, not-false}
+use borrow.Author.Tests.{ltb-false, eqb-true, not-false}
 use lib.Dec.{eqb, ltb}
 use lib.ListN.{length, get_or, set}
 use Rattle.std.proofs.Common.{Result, Err}
 use Rattle.lent.specs.Areas.{over}
 use Rattle.lent.specs.Refusals.{no, ◌then◌, number_of, answer_of}
 use Rattle.lent.specs.declared.Refusal.{Refusal}
-use Rattle.lent.specs.declared.Refusal.TheVariants.{ListTooLong, ListBroken, LentLengths, StateOutOfRange, HoldTooLong, BusyTooLong, AreaTooSmall, SampleOutOfRange, DrivesTooShort, NoSuchStrap}
 use Rattle.lent.proofs.Rows.{over_whole}
-use Rattle.lent.proofs.Refusals.{none_first, none_later, not_said}
+use Rattle.lent.proofs.Refusals.{none_first, none_later, not_said, refused_some}
 use Rattle.lines.specs.Levels.{hi, ◌∥◌, byte_of, lines_of}
 use Rattle.lines.specs.Events.{opened}
 use Rattle.lines.specs.Records.{walk, drives_on, bad_sample}
@@ -79,19 +77,6 @@ pub turn : (asked i : ℕ) (xs : List ℕ) (w v : Watch) (m n d e : List ℕ) (r
 turn asked i xs w v m n d e r drive l x inv a b p q t h =
     one_tick (chip asked) i xs (watch_of w m) (watch_of v n) d e refl (t ∙ ap (λ (y : Lines). (chip asked).tick y (watch_of w m)) q) (p ∙ ap (λ (y : ℕ). set d i y) (b ∙ ap byte_of a)) h ∙ inv
 
--- no refusal has number 0
-numbered : (r : Refusal) → number_of r ≡ 0 → ⊥
-numbered ListTooLong h = omega arith
-numbered ListBroken h = omega arith
-numbered LentLengths h = omega arith
-numbered StateOutOfRange h = omega arith
-numbered HoldTooLong h = omega arith
-numbered BusyTooLong h = omega arith
-numbered AreaTooSmall h = omega arith
-numbered SampleOutOfRange h = omega arith
-numbered DrivesTooShort h = omega arith
-numbered NoSuchStrap h = omega arith
-
 -- a chip has no end of its own: it drives in every tick
 pub drives_always : (asked : ℕ) (xs : List ℕ) (s : Watching) → length (drives_on (chip asked) xs s) ≡ length xs
 unfolding drives_on
@@ -102,7 +87,7 @@ module _ (strap asked : ℕ) (memory state samples drives : List ℕ) where
   pub turned_down : (r : Refusal) (q : Result ℕ Refusal) → number_of r ≡ chip_number strap memory state asked samples drives → q ≡ Err r
       → left_by (answer_of q) memory state drives ≡ chip_alone strap memory state asked samples drives
   unfolding chip_alone
-  turned_down r q e h = rw (h, ← e, ne_eqb (number_of r) 0 (numbered r))
+  turned_down r q e h = rw (h, ← e, refused_some r)
 
   abbrev first : Watching
   first = rest_of (body_from strap Large memory state 0)

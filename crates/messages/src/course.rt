@@ -1,6 +1,7 @@
 // The plain reading of an accepted list: byte after byte, message after message, transaction after transaction.
-// Stays: what is lent is a parameter each. Of a struct `job` with the list and the holds each clause would say `job.entry.list.now` for `list.now`, and with
-// the areas what two mutable borrows in it held before and after, where `memory.old` and `results.new` say it now.
+// Stays: what is lent is a parameter each. With a struct of it (tried) a clause says `lent.entry.list.now` for `list.now`, and of the areas what the borrows inside
+// held before and after. Stays: `Sound`, `Within` and bounds on the time stand in several contracts; the first is about a run and an area that is lent beside it,
+// and the bounds differ from function to function, so that no type could hold them.
 ghost use Rattle.std.specs.Prelude.{◌≡◌, not, ◌||◌, List, ℕ, suc, ◌+◌, ◌*◌, ◌<◌, ◌≤◌, get_or, length};
 ghost use Rattle.kinds.specs.Kinds.{most_bytes, is_critical};
 ghost use Rattle.orders.specs.Asking.{get};
@@ -27,7 +28,8 @@ fn note_read(quota: Quota, count: u8, byte: u8, slot: usize, results: &mut [u8])
     put_at(results, slot + 1, count + 1);
 }
 
-// After a message: its transaction goes on, unless the message was critical and nobody answered. Stays: a kind is a byte, as it stands in the list.
+// After a message: its transaction goes on, unless the message was critical and nobody answered. Stays: a kind is a
+// byte here as in `kinds`, whose contracts answer for every byte.
 fn goes_on(said: bool, kind: u8) -> bool
     ensures { result ≡ said || not (is_critical kind) }
 {

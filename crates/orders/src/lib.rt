@@ -61,6 +61,7 @@ impl From<ListError> for Refusal {
 }
 
 // The number on the desk's list of what `check` said, 0 if the list is accepted.
+// Stays: it keeps what a public function promised; the entries pass the refusal on.
 pub fn number(checked: Result<usize, ListError>) -> u8
     ensures { result ≡ list_number checked }
 {
@@ -137,6 +138,7 @@ fn read_one(list: &[u8], at: usize) -> Result<Whole, Break>
 
 // The list from a place on, where it ends or a transaction begins. `area` is the result area's size so far. The two functions call each other as the list is
 // told: after a transaction's last message the next transaction begins.
+// Stays: that a place lies in the list is about both, and a struct of a borrowed list and a place would say `rest.entry.list.now` in each clause.
 #[cycle(message_transaction)]
 fn transaction(list: &[u8], at: usize, area: usize) -> Result<usize, Break>
     requires { (at ≤ length list.now) × (length list.now ≤ most_bytes) × (area ≤ 256 * at) }

@@ -88,6 +88,7 @@ pub fn value_of(chips: Chips, call: Call, memory: &[u8]) -> u8
 }
 
 // A STOP that stores makes a chip busy for the asked time from this tick on: counted from the last data byte it would answer too early.
+// Stays: tick and asked time are a parameter each; together they are nothing that the rules name.
 fn stopped(seat: Seat, tick: usize, asked: u16, mem: &mut [u8]) -> Seat
     requires { tick ≤ far }
     ensures cell { cell_at result mem.new ≡ stores asked tick (cell_at seat mem.old) }

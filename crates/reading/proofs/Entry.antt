@@ -3,16 +3,16 @@ use Prim.Native.Nat.{ℕ, suc, ◌*◌, ◌<◌, ◌≤◌}
 use native.Mathlib.Nat.{sub-zero}
 use native.Mathlib.Omega.{arith}
 use mathlib.Core.Path.{◌≡◌, refl, ap, ap₂, sym, ◌∙◌}
-use mathlib.Core.Bool.{false}
 use mathlib.Core.List.{List, [], ◌∷◌, ◌++◌, map}
 use borrow.Author.Tests.{lt-ltb, le-ltb}
 use lib.Count.{ones}
-use lib.Dec.{eqb, ltb}
+use lib.Dec.{ltb}
 use lib.ListN.{length, take}
+use Rattle.lent.proofs.Refusals.{refused_some, refused_first}
 use Rattle.std.specs.Prelude.{Result, Ok, Err}
 use Rattle.lent.specs.Refusals.{answer_of, no, number_of, refused_as, ◌then◌}
 use Rattle.lent.specs.declared.Refusal.{Refusal}
-use Rattle.lent.specs.declared.Refusal.TheVariants.{ListTooLong, ListBroken, LentLengths, StateOutOfRange, HoldTooLong, BusyTooLong, AreaTooSmall, SampleOutOfRange, DrivesTooShort, NoSuchStrap}
+use Rattle.lent.specs.declared.Refusal.TheVariants.{ListTooLong, ListBroken, AreaTooSmall}
 use Rattle.kinds.specs.Kinds.{most_bytes}
 use Rattle.orders.specs.Form.{transactions_of}
 use Rattle.orders.specs.Results.{start_area, check_of, refusal_of}
@@ -57,31 +57,6 @@ states_are t [] = refl
 states_are t (x ∷ xs) = rw (states_are t xs)
 
 -- what the desk turns down
-
--- a refusal has a number, and the first counts
-refused_first : (r : Refusal) (n : ℕ) → (number_of r then n) ≡ number_of r
-refused_first ListTooLong n = refl
-refused_first ListBroken n = refl
-refused_first LentLengths n = refl
-refused_first StateOutOfRange n = refl
-refused_first HoldTooLong n = refl
-refused_first BusyTooLong n = refl
-refused_first AreaTooSmall n = refl
-refused_first SampleOutOfRange n = refl
-refused_first DrivesTooShort n = refl
-refused_first NoSuchStrap n = refl
-
-refused_some : (r : Refusal) → eqb (number_of r) 0 ≡ false
-refused_some ListTooLong = refl
-refused_some ListBroken = refl
-refused_some LentLengths = refl
-refused_some StateOutOfRange = refl
-refused_some HoldTooLong = refl
-refused_some BusyTooLong = refl
-refused_some AreaTooSmall = refl
-refused_some SampleOutOfRange = refl
-refused_some DrivesTooShort = refl
-refused_some NoSuchStrap = refl
 
 abbrev outcome_of : Result ℕ Refusal → (memory states results : List ℕ) → Outcome
 outcome_of r m st l = record { answer = answer_of r; memory = m; states = st; results = l }

@@ -5,13 +5,18 @@ use mathlib.Core.Bool.{Bool, true, false, cond}
 use mathlib.Core.List.{List}
 use native.Mathlib.Omega.{arith}
 use native.Mathlib.Nat.{mod-lt, div-eq_of_lt-le, add-mul, one-mul, div-add-mod'}
-use borrow.Author.Tests.{lt-ltb, ltb-true, ltb-false, leb-true, leb-false, eqb-true, eqb-false}
+use borrow.Author.Tests.{lt-ltb, le-ltb, ltb-true, ltb-false, leb-true, leb-false, eqb-true, eqb-false}
 use Rattle.std.proofs.Common.{Option, None, Some}
 use lib.Dec.{eqb, ltb, leb}
 use lib.ListN.{length, get_or, set, length-set}
 use lib.Seq.{get_or-set_same, get_or-set_other}
 use Rattle.store.specs.Pages.{page_start}
 use Rattle.store.specs.Keeping.{Kept, geo, store_one, stored, stops}
+
+-- nothing is latched, or a number that is no byte
+abbrev pub Blank : Option ℕ → Type 0
+Blank None = Unit {0}
+Blank (Some v) = 256 ≤ v
 
 -- one place
 length_one : (m : List ℕ) (at : ℕ) (b : Option ℕ) → length (store_one m at b) ≡ length m
@@ -33,8 +38,9 @@ other_one m at (Some v) i d h = go (ltb v 256)
 same_one : (m : List ℕ) (at v : ℕ) (b : Option ℕ) (d : ℕ) → b ≡ Some v → v < 256 → at < length m → get_or (store_one m at b) at d ≡ v
 same_one m at v b d e h l = rw (e, lt-ltb v 256 h) (get_or-set_same m at v d l)
 
-blank_one : (m : List ℕ) (at : ℕ) (b : Option ℕ) (i d : ℕ) → b ≡ None → get_or (store_one m at b) i d ≡ get_or m i d
-blank_one m at b i d e = rw e
+blank_one : (m : List ℕ) (at : ℕ) (b : Option ℕ) (i d : ℕ) → Blank b → get_or (store_one m at b) i d ≡ get_or m i d
+blank_one m at None i d h = refl
+blank_one m at (Some v) i d h = rw (le-ltb v 256 h)
 
 -- the length stays
 pub length_stored : (k base : ℕ) (l : List (Option ℕ)) (m : List ℕ) → length (stored k base l m) ≡ length m
@@ -56,12 +62,12 @@ past_stored (suc k) base i d l m h =
     other_one (stored k base l m) (base + k) (get_or l k None) i d (λ e. omega arith) ∙ past_stored k base i d l m (omega arith)
 
 -- a place for which nothing is latched keeps its byte
-blank_next : (base j k d : ℕ) (l : List (Option ℕ)) (m : List ℕ) (q : Bool) → eqb j k ≡ q → get_or l j None ≡ None
+blank_next : (base j k d : ℕ) (l : List (Option ℕ)) (m : List ℕ) (q : Bool) → eqb j k ≡ q → Blank (get_or l j None)
     → get_or (store_one m (base + k) (get_or l k None)) (base + j) d ≡ get_or m (base + j) d
 blank_next base j k d l m true e h = blank_one m (base + k) (get_or l k None) (base + j) d (rw (eqb-true j k e) at h)
 blank_next base j k d l m false e h = other_one m (base + k) (get_or l k None) (base + j) d (λ p. eqb-false j k e (omega arith))
 
-pub blank_stored : (k base j d : ℕ) (l : List (Option ℕ)) (m : List ℕ) → get_or l j None ≡ None → get_or (stored k base l m) (base + j) d ≡ get_or m (base + j) d
+pub blank_stored : (k base j d : ℕ) (l : List (Option ℕ)) (m : List ℕ) → Blank (get_or l j None) → get_or (stored k base l m) (base + j) d ≡ get_or m (base + j) d
 unfolding stored
 blank_stored zero base j d l m h = refl
 blank_stored (suc k) base j d l m h = blank_next base j k d l (stored k base l m) (eqb j k) refl h ∙ blank_stored k base j d l m h
@@ -112,7 +118,7 @@ module _ (k : Kept) where
     place = rw (← here) (div-add-mod' i (geo k.store).page)
 
     -- nor one of it for which nothing was latched
-    pub unlatched : (due : Bool) → get_or k.store.latch (i % (geo k.store).page) None ≡ None → get_or (stops due k).memory i d ≡ get_or k.memory i d
+    pub unlatched : (due : Bool) → Blank (get_or k.store.latch (i % (geo k.store).page) None) → get_or (stops due k).memory i d ≡ get_or k.memory i d
     unfolding stops
     unlatched false h = refl
     unlatched true h = rw place at (blank_stored (geo k.store).page (page_start (geo k.store) k.store.pointer) (i % (geo k.store).page) d k.store.latch k.memory h)

@@ -1,7 +1,7 @@
 -- Tick by tick, to an end. Assumes nothing.
 use Rattle.std.proofs.Common.{rules}
 use Rattle.std.proofs.Common.{length-set}
-use Rattle.controller.proofs.Record.{run_starts, turn, ends_over, ends_record}
+use Rattle.controller.proofs.Record.{run_starts, turn, ends_over, ends_in_full}
 use Rattle.controller.proofs.run.Goals as goal
 
 pub loop-t-init : goal.loop-t-init
@@ -14,4 +14,4 @@ pub loop-t-preserved : goal.loop-t-preserved
 loop-t-preserved c = let h = c.loop-t.invariant.answer in record { answer = search turn; long_enough = search (rules, length-set) }
 
 pub returns : goal.returns
-returns c = let h = c.loop-t.invariant.answer in search ends_record
+returns c = let h = c.loop-t.invariant.answer in search ends_in_full
