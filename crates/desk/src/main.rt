@@ -4,7 +4,7 @@
 
 use bus::run;
 use lent::Refusal;
-use orders::check;
+use orders::{check, room};
 use printing::Hex;
 use std::io::Read;
 use std::{fmt, io};
@@ -36,32 +36,23 @@ fn bench<'a>(list: &[u8], area: &'a mut [u8]) -> Result<Answer<'a>, Refusal> {
     if MOST_INPUT < list.len() {
         return Err(Refusal::ListTooLong);
     }
-    let size = check(list)?;
-    // a list within the bound asks for 11,264 bytes at most
-    let results = area.get_mut(..size).ok_or(Refusal::AreaTooSmall)?;
     let mut memory = [255; 4096];
     let mut states = [0; 4];
-    let ticks = run(
-        list,
-        1,
-        &mut memory,
-        &mut states,
-        &[],
-        8000,
-        results,
-        &mut [],
-    )?;
-    Ok(Answer { results, ticks })
+    let ticks = run(list, 1, &mut memory, &mut states, &[], 8000, area, &mut [])?;
+    let size = room(check(list)).min(area.len());
+    Ok(Answer {
+        results: &area[..size],
+        ticks,
+    })
 }
 
 fn main(rt: HostRuntime) -> io::Result<()> {
-    // a read that fails ends the input
-    let input: Vec<u8> = rt
+    // a read that fails ends the input, and what came before it counts; all has room from the start, so that no byte is lost for want of memory
+    let mut input = Vec::with_capacity(rt.alloc(), MOST_INPUT + 1)?;
+    let _ = rt
         .reader()
-        .bytes()
-        .take(MOST_INPUT + 1)
-        .map_while(Result::ok)
-        .collect(rt.alloc())?;
+        .take(MOST_INPUT as u64 + 1)
+        .read_to_end(&mut input);
     let mut area = vec![in rt.alloc(); 0; AREA]?;
     match bench(&input, &mut area) {
         Ok(answer) => println!(rt; "{answer}"),

@@ -68,13 +68,9 @@ fn shows(rt: &HostRuntime, script: &Script) -> io::Result<()> {
 }
 
 fn main(rt: HostRuntime) -> io::Result<()> {
-    // a read that fails ends the input
-    let text: Vec<u8> = rt
-        .reader()
-        .bytes()
-        .take(MOST_INPUT)
-        .map_while(Result::ok)
-        .collect(rt.alloc())?;
+    // a read that fails ends the input, and what came before it counts; all has room from the start, so that no byte is lost for want of memory
+    let mut text = Vec::with_capacity(rt.alloc(), MOST_INPUT)?;
+    let _ = rt.reader().take(MOST_INPUT as u64).read_to_end(&mut text);
     // the name is written as it stands, the commands make the record
     for line in text.split_inclusive(|byte| *byte == b'\n') {
         let whole = line.strip_suffix(b"\n");
