@@ -6,7 +6,7 @@ use mathlib.Core.List.{List}
 use Rattle.std.specs.Prelude.{Result}
 use Rattle.lent.specs.Refusals.{answer_of}
 use Rattle.lent.specs.declared.Refusal.{Refusal}
-use Rattle.controller.specs.Alone.{Told, Alone, told_of, alone}
+use Rattle.controller.specs.Alone.{Alone, told_of, alone}
 use Rattle.controller.specs.declared.Told.{Told as ToldOfRun}
 use Rattle.lone_chip.specs.Alone.{ChipAlone, left_by, chip_alone}
 use Rattle.board.specs.Desk.{Outcome}

@@ -3,11 +3,14 @@
 #![tactic(auto)]
 
 use bus::run;
+use io::read_full;
 use lent::Refusal;
 use orders::{check, room};
 use printing::Hex;
-use std::io::Read;
-use std::{fmt, io};
+use std::fmt;
+
+// Standard input's number.
+const STDIN: i32 = 0;
 
 // The program's own bound on its input, no entry's.
 const MOST_INPUT: usize = 512;
@@ -46,15 +49,12 @@ fn bench<'a>(list: &[u8], area: &'a mut [u8]) -> Result<Answer<'a>, Refusal> {
     })
 }
 
-fn main(rt: HostRuntime) -> io::Result<()> {
-    // a read that fails ends the input, and what came before it counts; all has room from the start, so that no byte is lost for want of memory
-    let mut input = Vec::with_capacity(rt.alloc(), MOST_INPUT + 1)?;
-    let _ = rt
-        .reader()
-        .take(MOST_INPUT as u64 + 1)
-        .read_to_end(&mut input);
+fn main(rt: HostRuntime) -> std::io::Result<()> {
+    // a read that fails or is interrupted ends the input, and what came before it counts
+    let mut input = [0; MOST_INPUT + 1];
+    let held = read_full(STDIN, &mut input);
     let mut area = vec![in rt.alloc(); 0; AREA]?;
-    match bench(&input, &mut area) {
+    match bench(&input[..held], &mut area) {
         Ok(answer) => println!(rt; "{answer}"),
         Err(refusal) => println!(rt; "refused {}", u8::from(refusal)),
     }
