@@ -39,3 +39,4 @@ pub mod Overwritten
 pub mod Demand3
 pub mod Formula
 pub mod Answers
+pub mod OneAnswer

@@ -4,7 +4,7 @@
 
 use eeprom::{put_state, word_at};
 use lent::Refusal;
-use orders::check;
+use orders::{check, room};
 use printing::{Hex, Outcome};
 use std::{fmt, io};
 
@@ -63,7 +63,7 @@ where
     let mut memory = case.memory;
     let mut state = [0; 4];
     put_state(&mut state, case.pointer, case.busy);
-    let mut results = vec![in rt.alloc(); 170; check(case.list).unwrap_or(0)]?;
+    let mut results = vec![in rt.alloc(); 170; room(check(case.list))]?;
     let outcome = run(&mut memory, &mut state, &mut results);
     let left = Left {
         outcome,

@@ -3,11 +3,14 @@
 #![tactic(auto)]
 
 use bus::run;
+use io::read_full;
 use lent::Refusal;
-use orders::check;
+use orders::{check, room};
 use printing::Hex;
-use std::io::Read;
-use std::{fmt, io};
+use std::fmt;
+
+// Standard input's number.
+const STDIN: i32 = 0;
 
 // The program's own bound on its input, no entry's.
 const MOST_INPUT: usize = 512;
@@ -36,34 +39,22 @@ fn bench<'a>(list: &[u8], area: &'a mut [u8]) -> Result<Answer<'a>, Refusal> {
     if MOST_INPUT < list.len() {
         return Err(Refusal::ListTooLong);
     }
-    let size = check(list)?;
-    // a list within the bound asks for 11,264 bytes at most
-    let results = area.get_mut(..size).ok_or(Refusal::AreaTooSmall)?;
     let mut memory = [255; 4096];
     let mut states = [0; 4];
-    let ticks = run(
-        list,
-        1,
-        &mut memory,
-        &mut states,
-        &[],
-        8000,
-        results,
-        &mut [],
-    )?;
-    Ok(Answer { results, ticks })
+    let ticks = run(list, 1, &mut memory, &mut states, &[], 8000, area, &mut [])?;
+    let size = room(check(list)).min(area.len());
+    Ok(Answer {
+        results: &area[..size],
+        ticks,
+    })
 }
 
-fn main(rt: HostRuntime) -> io::Result<()> {
-    // a read that fails ends the input
-    let input: Vec<u8> = rt
-        .reader()
-        .bytes()
-        .take(MOST_INPUT + 1)
-        .map_while(Result::ok)
-        .collect(rt.alloc())?;
+fn main(rt: HostRuntime) -> std::io::Result<()> {
+    // a read that fails or is interrupted ends the input, and what came before it counts
+    let mut input = [0; MOST_INPUT + 1];
+    let held = read_full(STDIN, &mut input);
     let mut area = vec![in rt.alloc(); 0; AREA]?;
-    match bench(&input, &mut area) {
+    match bench(&input[..held], &mut area) {
         Ok(answer) => println!(rt; "{answer}"),
         Err(refusal) => println!(rt; "refused {}", u8::from(refusal)),
     }

@@ -14,18 +14,21 @@ mod report;
 mod script;
 
 use eeprom::{put_state, word_at};
+use io::read_full;
 use lone_chip::chip_alone;
 use printing::Outcome;
 use report::{Drives, Report};
 use script::{Case, Script, Tape};
-use std::io;
-use std::io::Read;
+use std::alloc::{AllocError, Global};
+
+// Standard input's number.
+const STDIN: i32 = 0;
 
 // No more of the input is read.
 const MOST_INPUT: usize = 65536;
 
 // The chip on a record.
-fn runs(rt: &HostRuntime, case: &Case, record: &[u8]) -> io::Result<()> {
+fn runs(rt: &HostRuntime, case: &Case, record: &[u8]) -> std::io::Result<()> {
     let mut memory = report::first_bytes();
     let mut state = [0; 4];
     put_state(&mut state, case.pointer, case.busy);
@@ -52,7 +55,7 @@ fn runs(rt: &HostRuntime, case: &Case, record: &[u8]) -> io::Result<()> {
     println!(rt; "{report}")
 }
 
-fn shows(rt: &HostRuntime, script: &Script) -> io::Result<()> {
+fn shows(rt: &HostRuntime, script: &Script) -> std::io::Result<()> {
     let case = &script.case;
     let record = script.tape.samples.as_slice();
     let Some(sweep) = case.sweep else {
@@ -67,14 +70,16 @@ fn shows(rt: &HostRuntime, script: &Script) -> io::Result<()> {
     Ok(())
 }
 
-fn main(rt: HostRuntime) -> io::Result<()> {
-    // a read that fails ends the input
-    let text: Vec<u8> = rt
-        .reader()
-        .bytes()
-        .take(MOST_INPUT)
-        .map_while(Result::ok)
-        .collect(rt.alloc())?;
+// What standard input holds. A read that fails or is interrupted ends it, and what came before it counts.
+fn input(alloc: Global) -> Result<Vec<u8>, AllocError> {
+    let mut text = vec![in alloc; 0; MOST_INPUT]?;
+    let held = read_full(STDIN, &mut text);
+    text.truncate(held);
+    Ok(text)
+}
+
+fn main(rt: HostRuntime) -> std::io::Result<()> {
+    let text = input(rt.alloc())?;
     // the name is written as it stands, the commands make the record
     for line in text.split_inclusive(|byte| *byte == b'\n') {
         let whole = line.strip_suffix(b"\n");

@@ -139,7 +139,9 @@ fn read_one(list: &[u8], at: usize) -> Result<Whole, Break>
 // The list from a place on, where it ends or a transaction begins. `area` is the result area's size so far. The two functions call each other as the list is
 // told: after a transaction's last message the next transaction begins.
 // Stays: that a place lies in the list is about both, and a struct of a borrowed list and a place would say `rest.entry.list.now` in each clause.
+// Inlined, or a list of short transactions goes two calls deep for each message and takes a quarter more time.
 #[cycle(message_transaction)]
+#[inline(always)]
 fn transaction(list: &[u8], at: usize, area: usize) -> Result<usize, Break>
     requires { (at ≤ length list.now) × (length list.now ≤ most_bytes) × (area ≤ 256 * at) }
     ensures { Tells result area 0 list.now at }

@@ -28,13 +28,20 @@ impl Holder {
     fn tick(self, past: bool, seen: bool, holds: &[u8]) -> Holder
         ensures { holding_of result holds.now ≡ hold_tick past seen (holding_of self holds.now) }
     {
-        if past && !seen {
-            match holds.get(self.next) {
-                Some(&hold) => Holder {
-                    left: 1 + u16::from(hold),
-                    next: self.next + 1,
-                },
-                None => Holder { left: 1, ..self },
+        if past {
+            if seen {
+                Holder {
+                    left: self.left.saturating_sub(1),
+                    ..self
+                }
+            } else {
+                match holds.get(self.next) {
+                    Some(&hold) => Holder {
+                        left: 1 + u16::from(hold),
+                        next: self.next + 1,
+                    },
+                    None => Holder { left: 1, ..self },
+                }
             }
         } else {
             Holder {
@@ -71,20 +78,26 @@ impl Bus {
     {
         let drive = self.control.drive();
         Lines {
-            scl: drive.scl && self.hold.left == 0,
-            sda: drive.sda && self.up,
+            scl: drive.scl & (self.hold.left == 0),
+            sda: drive.sda & self.up,
         }
     }
 
-    // All but the chips see the lines.
+    // All but the chips see the lines. The holder and the eye go first: after the controller's step, each tick of a bus without chips takes longer.
     fn tick(self, seen: Lines, list: &[u8], holds: &[u8], area: &mut [u8]) -> Bus
         ensures sees { BusSees list.now holds.now seen self area.old result area.new }
         ensures up { result.up ≡ self.up }
     {
+        let control = self.control;
+        let hold = self.hold;
+        let eye = self.eye;
+        let held = hold.tick(eye.past.scl, seen.scl, holds);
+        let after = eye.after(seen);
+        let next = control.tick(seen, list, area);
         Bus {
-            control: self.control.tick(seen, list, area),
-            hold: self.hold.tick(self.eye.past.scl, seen.scl, holds),
-            eye: self.eye.after(seen),
+            control: next,
+            hold: held,
+            eye: after,
             up: self.up,
         }
     }
