@@ -42,6 +42,7 @@ fn bench<'a>(list: &[u8], area: &'a mut [u8]) -> Result<Answer<'a>, Refusal> {
     let mut memory = [255; 4096];
     let mut states = [0; 4];
     let ticks = run(list, 1, &mut memory, &mut states, &[], 8000, area, &mut [])?;
+    // the run was accepted, so the area has that much room
     let size = room(check(list)).min(area.len());
     Ok(Answer {
         results: &area[..size],

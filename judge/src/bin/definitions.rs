@@ -21,7 +21,7 @@ struct Wrong {
     refused: &'static [&'static str],
 }
 
-static TRIED: [Wrong; 5] = [
+static TRIED: [Wrong; 6] = [
     Wrong { name: "the rules as they are", edits: &[], proved: &["agreement", "bench"], refused: &[] },
     Wrong {
         name: "a page of 64 on both sides",
@@ -47,6 +47,13 @@ static TRIED: [Wrong; 5] = [
     Wrong {
         name: "the clock holder holds a tick too long",
         edits: &[("wires/specs/Holding.antt", "suc (first_hold h.list)", "suc (suc (first_hold h.list))")],
+        proved: &[],
+        refused: &["agreement"],
+    },
+    // what is told of an answer would no longer settle it
+    Wrong {
+        name: "two refusals with one number",
+        edits: &[("lent/specs/Refusals.antt", "number_of ListBroken = 2", "number_of ListBroken = 1")],
         proved: &[],
         refused: &["agreement"],
     },
